@@ -1,4 +1,4 @@
--- The law of the check of addresses, which an `impl` cites.
+-- The law of the address check, which an `impl` cites.
 use Rattle.std.proofs.Common.{◌≡◌, List, ◌++◌, Ordering, flat_map, refl, subst, ◌∙◌, ap}
 use Rattle.std.proofs.lemmas.List.Concat.{flat_map-append}
 use Rattle.line_stamps.specs.KeyParts.{KeyParts}
@@ -32,7 +32,7 @@ by_rules k l Value Value = refl
 pub derived_cmp : fault_cmp ≡ ghosts.cmp
 derived_cmp = λ i a b. by_rules a.key b.key a.rule b.rule i
 
--- the fault of two lists of spans joined is the lesser of theirs
+-- the least fault in two joined lists of spans is the lesser of their least faults
 pub least_fault_in-joined : (es : List Entry) (xs ys : List AddrSpan) → least_fault_in es (xs ++ ys) ≡ lesser ghosts.cmp (least_fault_in es xs) (least_fault_in es ys)
 least_fault_in-joined es xs ys =
     subst (λ (R : AddressFault → AddressFault → Ordering). least_fault_in es (xs ++ ys) ≡ lesser R (least_fault_in es xs) (least_fault_in es ys)) derived_cmp

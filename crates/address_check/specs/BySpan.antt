@@ -24,6 +24,6 @@ in_span span es = filter (λ e. has_address span e.logged.addr) es
 abbrev pub faults_in : List Entry → AddrSpan → List AddressFault
 faults_in es span = filter_map (address_fault es) (in_span span es)
 
--- the fault of least key at the addresses of some spans
+-- the fault with the least key at the addresses of some spans
 abbrev pub least_fault_in : List Entry → List AddrSpan → Option AddressFault
 least_fault_in es spans = least_of fault_cmp (flat_map (faults_in es) spans)

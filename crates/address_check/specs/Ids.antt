@@ -1,7 +1,7 @@
--- Entries that are told apart by their ids.
+-- Entries with different ids.
 use Rattle.std.specs.Prelude.{◌≢◌, List, AllPairs}
 use Rattle.log_record.specs.declared.record.Entry.{Entry}
 
--- no id stands twice
+-- no two entries have the same id
 abbrev pub IdsApart : List Entry → Type 0
 IdsApart es = AllPairs (λ a b. a.id ≢ b.id) es

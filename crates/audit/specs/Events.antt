@@ -27,7 +27,7 @@ pub data AreEvents : Move → List Event → Type 0 where
   performs : (c : ℕ) → AreEvents (alone c Performed) (Turn c ∷ [])
   drops : (c a : ℕ) → AreEvents (alone c (Dropped a)) (Evict c a ∷ [])
   flushes : (c a : ℕ) (l : Line) → AreEvents (alone c (Gave (FlushRep a l))) (Evict c a ∷ [])
-  -- the recall's `rts` isn't in the entry
+  -- the entry doesn't have the recall's `rts`
   writes_back : (c a asked : ℕ) (l : Line) → AreEvents (alone c (Gave (WbRep a l))) (Recalls c (record { rts = asked; addr = a; owner = c; kind = WriteBack }) ∷ [])
   bumps : (c : ℕ) → AreEvents (alone c Bumped) (Increment c ∷ [])
   spills : (s a : ℕ) → AreEvents (evicts s a) (Spill a ∷ [])
@@ -54,19 +54,19 @@ pub record AreOneMachine (g : ConfigParts) (us : List UnitParts) (ss : List Slic
   pub slice_config : (n : ℕ) (s : SliceParts) → slice_get ss n ≡ Some s → s.config ≡ g
   pub slice : (n : ℕ) (s : SliceParts) → slice_get ss n ≡ Some s → slice.Replays s
 
--- these cores, and these slices with no order of service
+-- these cores, and these slices without their order of service
 abbrev pub world_of : List Core → List SliceParts → World
 world_of cores ss = record { cores = cores; slices = map (λ s. slice_of s.state) ss }
 
--- A merge of the whole lists leads from the start of the programs to the states of the units and slices. A request in hand is no
--- entry, and so in no merge.
+-- A merge of the whole lists leads from the start of the programs to the states of the units and slices. A request in hand makes
+-- no entry, so it is in no merge.
 abbrev pub MergesAreRuns : Type 0
 MergesAreRuns =
     (g : ConfigParts) (us : List UnitParts) (ss : List SliceParts) (order : List Move) →
     AreOneMachine g us ss → IsMerge (transcripts us) (histories ss) order →
     IsRunOf g (opening (map (λ u. u.program) us) g.slices) order (world_of (map replayed us) ss)
 
--- of a whole run of the programs each hand is empty, and a merge leads to just the states that its units have
+-- after a whole run of the programs each hand is empty, and a merge leads to just the states that its units have
 abbrev pub WholeRunsAreRuns : Type 0
 WholeRunsAreRuns =
     (programs : List (List Instruction)) (g : ConfigParts) (us : List UnitParts) (ss : List SliceParts) (order : List Move) →

@@ -22,7 +22,7 @@ abbrev pub put : {A : Type 0} → Option A → List A → List A
 put None xs = xs
 put (Some x) xs = x ∷ xs
 
--- what f finds in each element, in their order
+-- what f finds in each element, in the order of the elements
 abbrev pub picks : {A B : Type 0} → (A → Option B) → List A → List B
 picks f [] = []
 picks f (x ∷ xs) = put (f x) (picks f xs)

@@ -12,8 +12,8 @@ use Rattle.audit.specs.Pairs.{slice_of, gots, Agrees, IsFirstDifference}
 
 -- ---- orders
 
--- One step of an order: core c's entry of its own, slice s's eviction, or slice s's service of core c's message just before
--- core c's taking of the reply.
+-- One step of an order: an entry that core c makes by itself, an eviction of slice s, or slice s's service of core c's message
+-- and, right after it, core c's taking of the reply.
 pub data Move : Type 0 where
   alone : ℕ → CoreEntry → Move
   evicts : ℕ → ℕ → Move
@@ -70,7 +70,7 @@ pub record HasMerge (ts : List (List CoreEntry)) (hs : List (List HistoryEntry))
   pub order : List Move
   pub merges : IsMerge ts hs order
 
--- the same of fronts of the lists: the first p c entries of each core c and the first q s of each slice s
+-- the same for fronts of the lists: the first p c entries of each core c and the first q s of each slice s
 pub record Merges (ts : List (List CoreEntry)) (hs : List (List HistoryEntry)) (p q : ℕ → ℕ) (order : List Move) : Type 0 where
   pub moves : AreMoves (length hs) order
   pub cores : (c : ℕ) → of_core c order ≡ take (p c) (transcript_of ts c)
@@ -86,8 +86,8 @@ pub record InFronts (ts : List (List CoreEntry)) (hs : List (List HistoryEntry))
 
 -- ---- faults
 
--- The first reply taken, by core and then in its transcript, that is in no merged fronts. Its place is that among the pairs of
--- its core and slice.
+-- The first entry, by core and then in its transcript, that is in no merged fronts: it is the taking of a reply. Its place is
+-- counted among the pairs of its core and slice.
 pub record IsFirstUnmerged (ts : List (List CoreEntry)) (hs : List (List HistoryEntry)) (core slice place : ℕ) : Type 0 where
   pub at : ℕ
   pub message : Message
@@ -99,7 +99,7 @@ pub record IsFirstUnmerged (ts : List (List CoreEntry)) (hs : List (List History
   pub before : (k : ℕ) → k < at → InFronts ts hs core k
   pub earlier : (c k : ℕ) → c < core → k < length (transcript_of ts c) → InFronts ts hs c k
 
--- the first difference, or, where all pairs agree, the first reply taken that no order reaches
+-- the first difference, or, if all pairs agree, the first entry that no order reaches
 abbrev pub IsAuditFault : List (List CoreEntry) → List (List HistoryEntry) → ℕ → ℕ → ℕ → Type 0
 IsAuditFault ts hs core slice place =
     IsFirstDifference ts hs core slice place ⊎ (Agrees ts hs × IsFirstUnmerged ts hs core slice place)

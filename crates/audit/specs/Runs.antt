@@ -49,7 +49,7 @@ pub record IsRun (programs : List (List Instruction)) (g : ConfigParts) (us : Li
   pub agree : Agrees (transcripts us) (histories ss)
   pub merge : HasMerge (transcripts us) (histories ss)
 
--- a unit of this core and its program, whose log is a proper front of the program's operations: its PROGRAM fault is its length
+-- a unit of this core and its program, whose log is a proper front of the program's operations: the log's PROGRAM fault is its length
 pub record IsShort (programs : List (List Instruction)) (core : ℕ) (u : UnitParts) : Type 0 where
   pub is_core : u.core ≡ core
   pub program : slice_get programs core ≡ Some u.program
@@ -57,7 +57,7 @@ pub record IsShort (programs : List (List Instruction)) (core : ℕ) (u : UnitPa
   pub reaches : Reaches u.program (performed_by u) u.state
   pub proper : program_fault u.program (performed_by u) ≡ Some (length u.log)
 
--- the core's unit is so
+-- the core's unit is such a unit
 pub record StoppedShort (programs : List (List Instruction)) (us : List UnitParts) (core : ℕ) : Type 0 where
   pub unit : UnitParts
   pub stands : slice_get us core ≡ Some unit
@@ -70,18 +70,18 @@ pub record IsUnitLog (core : ℕ) (log : List Record) : Type 0 where
   pub replays : kept.Replays unit
   pub log_is : log ≡ unit.log
 
--- the log that is kept of core c: that of the unit at its place, where that unit is core c's
+-- the log that is kept of core c: that of the unit at its place if that unit is core c's, or else none
 abbrev pub kept_log : List UnitParts → ℕ → List Record
 kept_log us c = option_map_or (λ u. if u.core == c then u.log else []) (slice_get us c) []
 
 -- ---- what a run of threads ends with
 
--- Core c may report this fault. 33 is none of a core, and 30 and 31 are only where its unit has stopped before the program's end.
+-- Core c may report this fault. No core reports 33, and it reports 30 or 31 only if its unit has stopped before the program's end.
 pub record MayReport (programs : List (List Instruction)) (us : List UnitParts) (c : ℕ) (met_cause : Cause) : Type 0 where
   pub own : (fault : AuditFault) → met_cause ≡ cause.Audit fault → ⊥
   pub short : (met_cause ≡ cause.GaveUp) ⊎ (met_cause ≡ cause.Stopped) → StoppedShort programs us c
 
--- core c's thread met this fault, and it is one to report
+-- core c's thread met this fault, and the core may report it
 pub record Reports (programs : List (List Instruction)) (us : List UnitParts) (faults : List (Option Cause)) (c : ℕ) (met_cause : Cause) : Type 0 where
   pub met : slice_get faults c ≡ Some (Some met_cause)
   pub may : MayReport programs us c met_cause
@@ -90,26 +90,26 @@ pub record Reports (programs : List (List Instruction)) (us : List UnitParts) (f
 abbrev pub NoneReportsBelow : List (List Instruction) → List UnitParts → List (Option Cause) → ℕ → Type 0
 NoneReportsBelow programs us faults c = (d : ℕ) (found : Cause) → d < c → Reports programs us faults d found → ⊥
 
--- no core has
+-- no core has one
 abbrev pub NoneReports : List (List Instruction) → List UnitParts → List (Option Cause) → Type 0
 NoneReports programs us faults = NoneReportsBelow programs us faults (length faults)
 
--- the least core that has
+-- the least core that has one
 pub record IsFirstReport (programs : List (List Instruction)) (us : List UnitParts) (faults : List (Option Cause)) (c : ℕ) (found : Cause) : Type 0 where
   pub reports : Reports programs us faults c found
   pub before : NoneReportsBelow programs us faults c
 
 -- ---- 33
 
--- units and slices as a whole run of the programs leaves them, whatever their lists tell of each other
+-- units and slices as a whole run of the programs leaves them, whatever their lists say of each other
 pub record AreWhole (programs : List (List Instruction)) (g : ConfigParts) (us : List UnitParts) (ss : List SliceParts) : Type 0 where
   pub cores : length us ≡ length programs
   pub count : length ss ≡ g.slices
   pub units : AllEnded programs g us
   pub slices : AllNumbered g ss
 
--- Why they aren't those of a whole run. A difference of cores, programs, numbers, configurations, hands or ends has no place, and
--- is told with 0 of each; where there is none, it is the fault that the audit finds in their lists.
+-- Why they aren't those of a whole run. A difference of cores, programs, numbers, configurations, hands or ends has no place, so
+-- core, slice and place are 0; if there is no such difference, it is the fault that the audit finds in their lists.
 abbrev pub IsRunFault : List (List Instruction) → ConfigParts → List UnitParts → List SliceParts → AuditFault → Type 0
 IsRunFault programs g us ss fault =
     ((AreWhole programs g us ss → ⊥) × (fault ≡ record { core = 0; slice = 0; place = 0 }))

@@ -1,4 +1,4 @@
--- Definitions that serve mostly private contracts.
+-- Definitions that mostly serve private contracts.
 pub mod Fronts
 pub mod Steps
 pub mod Words

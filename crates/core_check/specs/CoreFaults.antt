@@ -21,7 +21,7 @@ breaks_core_order logs e =
 abbrev pub order_fault : OpId → RuleFault
 order_fault id = record { rule = CoreOrder; id = id }
 
--- all faults of core order of the set
+-- all core-order faults of the set
 abbrev pub order_faults : List (List Record) → List RuleFault
 order_faults logs = map (λ e. order_fault e.id) (filter (breaks_core_order logs) (entries logs))
 
@@ -30,7 +30,7 @@ least_core_fault logs = least_of core_fault_cmp (order_faults logs)
 
 -- ---- with programs
 
--- the fault of an id at which a log isn't what its core's program issues
+-- the fault at an id where a log isn't what its core's program issues
 abbrev pub program_fault_at : OpId → RuleFault
 program_fault_at id = record { rule = Program; id = id }
 
@@ -39,7 +39,7 @@ abbrev pub program_faults_of : ℕ → List Instruction → List Record → List
 program_faults_of core program log =
     option_map_or (λ i. program_fault_at (record { core = core; index = i }) ∷ []) (program_fault program (map operation_of log)) []
 
--- the PROGRAM faults of a core and of those after it, each log by the program beside it
+-- the PROGRAM faults of cores core, core + 1, .., whose programs and logs these are
 abbrev pub program_faults_from : ℕ → List (List Instruction) → List (List Record) → List RuleFault
 program_faults_from core [] logs = []
 program_faults_from core (program ∷ programs) [] = []

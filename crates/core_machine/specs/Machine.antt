@@ -1,4 +1,4 @@
--- The core machine: cores and slices, what each event may lead to, and runs. Which line goes where a cache or a slice is full
+-- The core machine: cores and slices, what each event may lead to, and runs. Which line goes when a cache or a slice is full
 -- is a free choice.
 use Rattle.std.specs.Prelude.{◌≡◌, ℕ, ◌%◌, Bool, true, false, not, ◌||◌, List, [], ◌∷◌, ◌++◌, replicate, Option, Some, None, is_some, is_none, map as list_map, slice_get, slice_set}
 use Rattle.std.specs.FinMap as map
@@ -49,7 +49,7 @@ with_slice g w a s = record w { slices = slice_set w.slices (slice_number g a) s
 
 -- ---- the events without effect
 
--- whose event it is; a spill isn't a core's
+-- the core whose event this is; a spill isn't a core's
 abbrev pub core_event : Event → Option ℕ
 core_event (event.Turn c) = Some c
 core_event (event.Serve c) = Some c
@@ -69,7 +69,7 @@ is_alone (event.Evict c a) = true
 is_alone (event.Spill a) = false
 is_alone (event.Increment c) = true
 
--- the event doesn't apply to its core
+-- whether the event doesn't apply to its core
 abbrev pub bars : Event → Core → Bool
 bars (event.Turn c) u = is_some u.hand
 bars (event.Serve c) u = is_none u.hand || is_some u.kept
@@ -84,7 +84,7 @@ abbrev pub bars_at : Event → Option Core → Bool
 bars_at e None = true
 bars_at e (Some u) = bars e u
 
--- a slice spills a line that is there and Shared
+-- a slice spills only a line that is there and Shared
 abbrev pub bars_spill : ℕ → Option Slice → Bool
 bars_spill a None = true
 bars_spill a (Some s) = not (is_some_shared (map.get s.lines a))

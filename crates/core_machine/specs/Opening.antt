@@ -1,4 +1,4 @@
--- The machine as it starts.
+-- The machine when it starts.
 use Rattle.std.specs.Prelude.{ℕ, suc, List, [], ◌∷◌, None, map}
 use Rattle.lease_rule.specs.ConfigParts.{ConfigParts}
 use Rattle.core_program.specs.declared.instruction.Instruction.{Instruction}

@@ -14,21 +14,21 @@ pub record CoreParts : Type 0 where
   pub seats : List SeatParts
   pub slices : List SliceParts
 
--- the machine as the relation of its events sees it, with no order of use
+-- the machine as the relation of its events sees it: without the orders of use and of service
 abbrev pub world : CoreParts → World
 world p = record { cores = map (λ seat. core_of seat.unit seat.kept) p.seats; slices = map (λ s. slice_of s.state) p.slices }
 
--- a core at its number
+-- this is core c's seat, with this configuration
 pub record IsSeat (g : ConfigParts) (c : ℕ) (seat : SeatParts) : Type 0 where
   pub core : seat.unit.core ≡ c
   pub config : seat.unit.config ≡ g
 
--- a slice at its number
+-- this is slice n, with this configuration
 pub record IsSliceAt (g : ConfigParts) (n : ℕ) (s : SliceParts) : Type 0 where
   pub number : s.number ≡ n
   pub config : s.config ≡ g
 
--- each core and each slice is at its number
+-- each core and each slice stands at its number, and the configuration says how many slices there are
 pub record IsPlaced (p : CoreParts) : Type 0 where
   pub seats : (c : ℕ) (seat : SeatParts) → slice_get p.seats c ≡ Some seat → IsSeat p.config c seat
   pub slices : (n : ℕ) (s : SliceParts) → slice_get p.slices n ≡ Some s → IsSliceAt p.config n s
@@ -38,11 +38,11 @@ pub record IsPlaced (p : CoreParts) : Type 0 where
 abbrev pub programs_of : CoreParts → List (List Instruction)
 programs_of p = map (λ seat. seat.unit.program) p.seats
 
--- some list of events leads to it from the machine as it starts
+-- some list of events leads to it from the machine's start
 abbrev pub IsReached : CoreParts → Type 0
 IsReached p = (events : List Event) × Run p.config (opening (programs_of p) p.config.slices) events (world p)
 
--- each cache has the room that the configuration tells
+-- each cache has the room that the configuration says
 abbrev pub HaveRoom : CoreParts → Type 0
 HaveRoom p = (c : ℕ) (seat : SeatParts) → slice_get p.seats c ≡ Some seat → seat.unit.cache.capacity ≡ p.config.cache_lines
 

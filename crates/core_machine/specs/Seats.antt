@@ -22,7 +22,7 @@ pub data SeatOutcome : Type 0 where
   -- an outcome that makes an entry, and the seat after it
   Steps : Outcome → SeatParts → SeatOutcome
 
--- the event, with this result, led from s to t as the outcome says; only for lack of memory may a step be refused
+-- the event, with this result, led from s to t as the outcome says; a step may be refused only for lack of memory
 abbrev pub SeatOutcomeLeads : SeatOutcome → Result Outcome UnitFault → SeatParts → SeatParts → Type 0
 SeatOutcomeLeads (Refuses fault) r s t = (r ≡ Err fault) × (t ≡ s)
 SeatOutcomeLeads (Answers o q) r s t = (r ≡ Ok o) × (t ≡ q)
@@ -39,12 +39,12 @@ abbrev pub take_outcome : SeatParts → Option Reply → SeatOutcome
 take_outcome s None = Answers NoEffect s
 take_outcome s (Some x) = with_kept None (unit.take_outcome s.unit x)
 
--- the message in hand, where it has no reply yet
+-- the message in hand, if it has no reply yet
 abbrev pub asked_by : Option Message → Option Reply → Option Message
 asked_by hand None = hand
 asked_by hand (Some x) = None
 
--- an event of the core alone
+-- what an event of the core alone comes to
 abbrev pub seat_outcome : Event → SeatParts → SeatOutcome
 seat_outcome (event.Turn c) s = with_kept s.kept (unit.turn_outcome s.unit)
 seat_outcome (event.Take c) s = take_outcome s s.kept
@@ -57,7 +57,7 @@ seat_outcome e s = Answers NoEffect s
 abbrev pub seen : SeatParts → Core
 seen s = core_of s.unit s.kept
 
--- with an outcome that isn't NoEffect the event leads the core on; NoEffect comes exactly where it doesn't apply, and changes nothing
+-- if the outcome isn't NoEffect, the event leads the core on; NoEffect comes exactly if the event doesn't apply, and changes nothing
 pub record SeatLeads (e : Event) (s : SeatParts) (r : Result Outcome UnitFault) (t : SeatParts) : Type 0 where
   pub leads : (o : Outcome) → r ≡ Ok o → o ≢ NoEffect → CoreLeads s.unit.config s.unit.core (seen s) e o (seen t)
   pub barred : r ≡ Ok NoEffect → (bars e (seen s) ≡ true) × (t ≡ s)

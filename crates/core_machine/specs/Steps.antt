@@ -26,7 +26,7 @@ pub data StepOutcome : Type 0 where
   Refuses : CoreFault → StepOutcome
   -- an outcome that isn't refused for lack of memory, and the machine after it
   Answers : Outcome → CoreParts → StepOutcome
-  -- an outcome that makes an entry, and the machine after it; this fault tells a lack of memory for it
+  -- an outcome that makes an entry, and the machine after it; the fault is the one that says that there was no memory for it
   Steps : CoreFault → Outcome → CoreParts → StepOutcome
 
 -- 10 OutOfMemory, of a core or of a slice
@@ -35,7 +35,7 @@ is_memory (Unit unit_fault.OutOfMemory) = true
 is_memory (Slice slice_fault.OutOfMemory) = true
 is_memory fault = false
 
--- the event, with this result, led from p to q as the outcome says; a step may be refused only by its own lack of memory
+-- the event, with this result, led from p to q as the outcome says; a step may be refused only for its own lack of memory
 abbrev pub OutcomeLeads : StepOutcome → Result Outcome CoreFault → CoreParts → CoreParts → Type 0
 OutcomeLeads (Refuses fault) r p q = (r ≡ Err fault) × (q ≡ p)
 OutcomeLeads (Answers o t) r p q = (r ≡ Ok o) × (q ≡ t)
@@ -103,7 +103,7 @@ step_outcome p (event.Spill a) =
     at_slice (λ s. spilled_outcome p n s (slice.evict_outcome s a)) p (slice_get p.slices n)
 step_outcome p (event.Increment c) = alone p c (event.Increment c)
 
--- the event led from p to q: an event without effect is answered so, and a refused one changes nothing
+-- the event led from p to q; NoEffect is the answer exactly if the event doesn't apply, and a refused event changes nothing
 pub record MachineLeads (e : Event) (p : CoreParts) (r : Result Outcome CoreFault) (q : CoreParts) : Type 0 where
   pub leads : IfOk r (λ o. Leads p.config (world p) e o (world q))
   pub barred : (r ≡ Ok NoEffect) ↔ (is_barred p.config (world p) e ≡ true)

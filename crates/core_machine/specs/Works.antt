@@ -5,15 +5,15 @@ use Rattle.log_record.specs.declared.record.Record.{Record}
 use Rattle.core_unit.specs.Core.{next_of}
 use Rattle.core_machine.specs.Machine.{World}
 
--- an operation of core c is left; none is where its program has ended or the core isn't there
+-- whether core c has an operation left; it has none if its program has ended or the core isn't there
 abbrev pub has_next : World → ℕ → Bool
 has_next w c = option_map_or (λ u. is_some (next_of u)) (slice_get w.cores c) false
 
--- the operations that core c has performed; none where it isn't there
+-- the records of the operations that core c has performed; none if it isn't there
 abbrev pub log_at : World → ℕ → List Record
 log_at w c = option_map_or (λ u. u.log) (slice_get w.cores c) []
 
--- the logs of core 0, of core 1, and so on, of so many
+-- the logs of this many cores, core 0's first
 abbrev pub logs_below : World → ℕ → List (List Record)
 logs_below w zero = []
 logs_below w (suc core) = logs_below w core ++ log_at w core ∷ []

@@ -11,27 +11,27 @@ use Rattle.text_lines.specs.Lines.{text_of, BeginsText, IsFirstWrong}
 
 -- ---- lines
 
--- Texts are told by what their sections are in each format: limited in length, or of any length.
+-- `Section` says what a section may be in each format: limited in length, or of any length.
 
--- lines of a program of this format whose instructions are such a section
+-- the lines of a program of this format whose instructions are such a section
 abbrev pub ProgramLines : ProgramFormat → (ProgramFormat → List Instruction → Type 0) → List (List ℕ) → Type 0
 ProgramLines format Section lines = (program : List Instruction) × (Section format program × (lines ≡ program_lines program))
 
--- lines of a set whose sections are such in the set's format
+-- the lines of a set whose programs are such sections in the set's format
 abbrev pub SetLines : (ProgramFormat → List Instruction → Type 0) → List (List ℕ) → Type 0
 SetLines Section lines = (set : SetParts) × (IsSetOf (Section set.format) set.programs × (lines ≡ set_lines set))
 
--- Line k is the first that is wrong, and would be so if sections had no limit.
+-- Line k is the first that is wrong, and it would be wrong even if sections had no limit.
 abbrev pub IsBadLine : ((ProgramFormat → List Instruction → Type 0) → List (List ℕ) → Type 0) → List ℕ → ℕ → Type 0
 IsBadLine Lines bytes k = IsFirstWrong (Lines IsSection) bytes k × (BeginsText (Lines EachFits) bytes k → ⊥)
 
--- Line k is the first that is wrong, and would be right if sections had no limit: it is the 4,097th instruction
+-- Line k is the first that is wrong, but it would be right if sections had no limit: it is the 4,097th instruction
 -- of its section.
 abbrev pub IsTooLong : ((ProgramFormat → List Instruction → Type 0) → List (List ℕ) → Type 0) → List ℕ → ℕ → Type 0
 IsTooLong Lines bytes k = IsFirstWrong (Lines IsSection) bytes k × BeginsText (Lines EachFits) bytes k
 
--- The line of a set that a line of a core's program is. Before it come the header, the sections of the cores before its own, its core's
--- line, and the lines of the program before it.
+-- Which line of a set a line of a core's program is. Before it come the header, the sections of the cores before, the core's own line,
+-- and the earlier lines of the program.
 abbrev pub line_in_set : List (List Instruction) → ℕ → ℕ → ℕ
 line_in_set set core place = 1 + length (sections 0 (take core set)) + 1 + place
 
@@ -56,7 +56,7 @@ pub record SkipsInSetAt (set : List (List Instruction)) (k : ℕ) : Type 0 where
 abbrev pub IsLeast : (ℕ → Type 0) → ℕ → Type 0
 IsLeast Holds k = Holds k × ((j : ℕ) → Holds j → k ≤ j)
 
--- why the sections of a set aren't all programs: the first jump past the end of its program
+-- why not all sections of a set are programs: the first jump past the end of its program, or lack of memory
 abbrev pub IsJumpFault : List (List Instruction) → ProgramFault → Type 0
 IsJumpFault set (SkipPastEnd k) = IsLeast (SkipsInSetAt set) k
 IsJumpFault set OutOfMemory = Unit {0}
@@ -73,8 +73,8 @@ SpellsProgram format bytes program = IsSection format program × (bytes ≡ text
 abbrev pub SpellsSet : List ℕ → SetParts → Type 0
 SpellsSet bytes set = IsSetOf (IsSection set.format) set.programs × (bytes ≡ text_of (set_lines set))
 
--- Why bytes aren't the text of any of those that have such lines, such texts and such jumps past the end. Lack of memory may come
--- instead of what has the text and of every other fault.
+-- Why bytes aren't the text of anything with such lines, such texts and such jumps past the end. Lack of memory may come instead of
+-- what has the text, and instead of every other fault.
 abbrev pub IsTextFault : {A : Type 0} → ((ProgramFormat → List Instruction → Type 0) → List (List ℕ) → Type 0) → (List ℕ → A → Type 0) → (A → ℕ → Type 0)
     → List ℕ → ProgramFault → Type 0
 IsTextFault Lines Spells Skips bytes (BadLine k) = IsBadLine Lines bytes k

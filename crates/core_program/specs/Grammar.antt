@@ -1,4 +1,4 @@
--- The texts of instructions, programs and sets of programs, and what has such a text.
+-- The texts of instructions, programs and sets of programs, and which of these have one.
 use Rattle.std.specs.Prelude.{ℕ, suc, ◌<◌, ◌≤◌, ◌^◌, IsTrue, List, [], ◌∷◌, ◌++◌, length, map, codes}
 use Rattle.std.specs.List.{join_with_byte, AllByRecursion}
 use Rattle.decimal_text.specs.Numbers.{numeral}
@@ -29,11 +29,11 @@ fields_of (Add to from value) = codes "ai" ∷ register_text to ∷ register_tex
 fields_of (SkipIfZero tested skip) = codes "jz" ∷ register_text tested ∷ numeral skip ∷ []
 fields_of (Swap to addr value) = codes "sw" ∷ register_text to ∷ numeral addr ∷ numeral value ∷ []
 
--- an instruction's line: its fields, with a space between each two
+-- an instruction's line: its fields, with one space between them
 unfoldable pub instruction_text : Instruction → List ℕ
 instruction_text instruction = join_with_byte 32 (fields_of instruction)
 
--- the first line of a set of programs of this format, for this number of cores
+-- the first line of a set of programs in this format, for this number of cores
 unfoldable pub header_text : ℕ → ℕ → List ℕ
 header_text format cores = codes "tardis-programs " ++ (numeral format ++ (codes " cores " ++ numeral cores))
 
@@ -72,7 +72,7 @@ pub record FitsIn (format : ProgramFormat) (instruction : Instruction) : Type 0 
   pub has : IsTrue (has_instruction format instruction)
   pub numbers : Fits instruction
 
--- instructions as a section of this format has them, however many
+-- instructions that a section of this format may have, however many they are
 abbrev pub EachFits : ProgramFormat → List Instruction → Type 0
 EachFits format program = AllByRecursion (FitsIn format) program
 
@@ -81,7 +81,7 @@ pub record IsSection (format : ProgramFormat) (program : List Instruction) : Typ
   pub few : length program ≤ 4096
   pub each_fits : EachFits format program
 
--- a section each for 1..64 cores
+-- one section for each of 1 to 64 cores
 pub record IsSetOf (Section : List Instruction → Type 0) (set : List (List Instruction)) : Type 0 where
   pub some : 1 ≤ length set
   pub few : length set ≤ 64

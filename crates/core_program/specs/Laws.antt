@@ -1,4 +1,4 @@
--- What holds of all programs.
+-- Laws of programs.
 use Rattle.std.specs.Prelude.{◌≡◌, ◌≢◌, ◌↔◌, ℕ, ◌≤◌, List, length, Some, None, slice_get}
 use Rattle.mem_op.specs.Consistency.{Operation, Swapped}
 use Rattle.core_program.specs.declared.format.ProgramFormat.TheVariants.{One}
@@ -9,13 +9,13 @@ use Rattle.core_program.specs.Meaning.{Path}
 use Rattle.core_program.specs.Running.{IsAtRest, run_from}
 use Rattle.core_program.specs.Conforming.{Reaches, Conforms, DiffersAt, program_fault}
 
--- between states at rest, operations lead to a state just where a path of the program does
+-- between states at rest, operations lead from one to the other exactly if a path of the program does
 abbrev pub RunsArePaths : Type 0
 RunsArePaths =
     (program : List Instruction) (s t : State) (operations : List Operation) →
     IsProgram program → IsAtRest program s → IsAtRest program t → (run_from program s operations ≡ Some t) ↔ Path program s operations t
 
--- a log conforms just where it has no PROGRAM fault
+-- a log conforms exactly if it has no PROGRAM fault
 abbrev pub ConformingIsNoFault : Type 0
 ConformingIsNoFault =
     (program : List Instruction) (operations : List Operation) →

@@ -5,14 +5,14 @@ use Rattle.core_program.specs.declared.instruction.Instruction.{Instruction}
 use Rattle.core_program.specs.declared.instruction.Instruction.TheVariants as instruction
 use Rattle.core_program.specs.State.{State, reg, with_reg, further}
 
--- the next instruction of a state
+-- the state's next instruction is this one
 abbrev pub IsNext : List Instruction → State → Instruction → Type 0
 IsNext program s next = slice_get program s.position ≡ Some next
 
 -- `Path program s operations t`: from s the program performs these operations, in this order, and comes to t.
 pub data Path (program : List Instruction) (s : State) : List Operation → State → Type 0 where
   stays : Path program s [] s
-  -- a load puts the word that it reads into its reg, whatever that word is
+  -- a load puts the word that it reads into its register, whatever that word is
   loads : (done : List Operation) (t : State) (to addr value : ℕ) → Path program s done t → IsNext program t (instruction.Load to addr) →
       Path program s (done ++ Loaded addr value ∷ []) (further 1 (with_reg t to value))
   stores : (done : List Operation) (t : State) (addr value : ℕ) → Path program s done t → IsNext program t (instruction.Store addr value) →

@@ -10,19 +10,19 @@ use Rattle.core_program.specs.State.{State, start, reg, with_reg, further}
 
 -- ---- operations before and after their answer
 
--- what an operation that was answered had been when it was issued
+-- an operation as it was issued, before its answer
 abbrev pub op_of : Operation → Op
 op_of (Loaded addr value) = op.Load addr
 op_of (Stored addr value) = op.Store addr value
 op_of (Swapped addr read stored) = op.Swap addr stored
 
--- what an operation is once it is answered: by the word that a load or a swap reads. A store has no use for its answer
+-- the operation once it is answered: a load or a swap reads the answer, a store has no use for it
 abbrev pub performed : Op → ℕ → Operation
 performed (op.Load addr) answer = Loaded addr answer
 performed (op.Store addr value) answer = Stored addr value
 performed (op.Swap addr value) answer = Swapped addr answer value
 
--- whether an operation is that which was issued
+-- whether an operation is the one that was issued
 abbrev pub is_issued : Option Op → Operation → Bool
 is_issued None operation = false
 is_issued (Some (op.Load addr)) (Loaded a v) = a == addr
@@ -37,7 +37,7 @@ is_issued (Some (op.Swap addr value)) (Swapped a r v) = (a == addr) && (v == val
 
 -- ---- one instruction
 
--- the operation that an instruction issues, or none where it touches no memory
+-- the operation that an instruction issues, or none if it touches no memory
 abbrev pub issued : Instruction → State → Option Op
 issued (Load to addr) s = Some (op.Load addr)
 issued (Store addr value) s = Some (op.Store addr value)
@@ -66,14 +66,14 @@ pub record IsAtRest (program : List Instruction) (s : State) : Type 0 where
   pub within : s.position ≤ length program
   pub waits : s.position < length program → IsSome (next_op program s)
 
--- where a core comes to rest from s on, if n instructions are enough
+-- the state in which a core comes to rest from s on, if n instructions are enough
 abbrev pub rest_within : ℕ → List Instruction → State → State
 rest_within zero program s = s
 rest_within (suc n) program s =
     option_map_or (λ instruction. if is_some (issued instruction s) then s else rest_within n program (after instruction 0 s)) (slice_get program s.position) s
 
--- The state at rest to which a core moves on from s. It leaves an instruction at each step, so there are at most as many
--- steps as instructions.
+-- The state at rest to which a core moves on from s. Each step moves past an instruction for good, so there are at most as
+-- many steps as instructions.
 abbrev pub at_rest : List Instruction → State → State
 at_rest program s = rest_within (length program) program s
 
@@ -83,7 +83,7 @@ answered program answer s = option_map_or (λ instruction. at_rest program (afte
 
 -- ---- many operations
 
--- the state at rest that these operations lead to from a state at rest, or none where one of them isn't what was issued
+-- the state at rest that these operations lead to from a state at rest, or None if one of them isn't what was issued
 abbrev pub run_from : List Instruction → State → List Operation → Option State
 run_from program s [] = Some s
 run_from program s (operation ∷ operations) =
@@ -93,6 +93,6 @@ run_from program s (operation ∷ operations) =
 abbrev pub start_of : List Instruction → State
 start_of program = at_rest program start
 
--- the state at rest after a core's first operations, or none where one of them isn't what was issued
+-- the state at rest after a core's first operations, or None if one of them isn't what was issued
 abbrev pub state_after : List Instruction → List Operation → Option State
 state_after program operations = run_from program (start_of program) operations

@@ -12,7 +12,7 @@ use Rattle.text_lines.specs.Lines.{text_of}
 
 -- ---- a line
 
--- the bytes begin with the line of an instruction of this format, and these come after it
+-- the bytes begin with the line of this instruction, which is one of this format, and `rest` comes after it
 abbrev pub InstructionInFront : ProgramFormat → Instruction → List ℕ → List ℕ → Type 0
 InstructionInFront format instruction bytes rest = FitsIn format instruction × (bytes ≡ instruction_text instruction ++ 10 ∷ rest)
 
@@ -24,7 +24,7 @@ NoInstructionInFront format bytes = (instruction : Instruction) (rest : List ℕ
 abbrev pub NoCoreInFront : ℕ → List ℕ → Type 0
 NoCoreInFront core bytes = (rest : List ℕ) → bytes ≡ core_text core ++ 10 ∷ rest → ⊥
 
--- the bytes begin with one instruction's line more than a section of this format may have
+-- the bytes begin with the lines of 4,097 instructions of this format, one more than a section may have
 pub record IsTooMany (format : ProgramFormat) (bytes : List ℕ) : Type 0 where
   pub program : List Instruction
   pub each_fits : EachFits format program
@@ -34,7 +34,7 @@ pub record IsTooMany (format : ProgramFormat) (bytes : List ℕ) : Type 0 where
 
 -- ---- sections one after another
 
--- the bytes begin with the sections of these programs of this format, cores 0, 1, .. of `cores`, whole ones, and these bytes come after them
+-- the bytes begin with the whole sections of these programs, in this format and for cores 0, 1, .. of `cores`, and `rest` comes after them
 pub record SectionsInFront (format : ProgramFormat) (cores : ℕ) (bytes : List ℕ) (programs : List (List Instruction)) (rest : List ℕ) : Type 0 where
   pub within : length programs ≤ cores
   pub each : AllByRecursion (IsSection format) programs

@@ -15,7 +15,7 @@ touches_memory (Add to from value) = false
 touches_memory (SkipIfZero tested skip) = false
 touches_memory (Swap to addr value) = true
 
--- whether an instruction at an index is a jump to further than just past the last of `count`
+-- whether the instruction at index i of `count` jumps further than just past the last one
 abbrev pub skips_past : ℕ → ℕ → Instruction → Bool
 skips_past count i (SkipIfZero register skip) = nat_lt count (i + 1 + skip)
 skips_past count i (Load to addr) = false

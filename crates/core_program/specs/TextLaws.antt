@@ -9,19 +9,19 @@ use Rattle.core_program.specs.Answers.{SpellsProgram, SpellsSet, IsProgramFault,
 use Rattle.core_program.specs.SetParts.{SetParts}
 use Rattle.core_program.specs.Shape.{IsProgram}
 
--- the text of a program is that of no other, in whatever formats, and it has no fault: reading it gives that program
+-- no two programs have the same text, whatever their formats, and a program's text has no fault but lack of memory: so a reading gives it
 pub record PrintedIsRead : Type 0 where
   pub one_program : (f g : ProgramFormat) (bytes : List ℕ) (p q : List Instruction) → SpellsProgram f bytes p → SpellsProgram g bytes q → p ≡ q
   pub no_fault : (format : ProgramFormat) (bytes : List ℕ) (program : List Instruction) (fault : ProgramFault) → SpellsProgram format bytes program → IsProgram program
       → IsProgramFault format bytes fault → fault ≡ OutOfMemory
 
--- the text of a set is that of no other, of its format or the other, and it has no fault
+-- no two sets have the same text, whatever their formats, and a text of a set of programs has no fault but lack of memory
 pub record SpelledSetIsRead : Type 0 where
   pub one_set : (bytes : List ℕ) (s t : SetParts) → SpellsSet bytes s → SpellsSet bytes t → s ≡ t
   pub no_fault : (bytes : List ℕ) (set : SetParts) (fault : ProgramFault) → SpellsSet bytes set → AllByRecursion IsProgram set.programs
       → IsSetFault bytes fault → fault ≡ OutOfMemory
 
--- bytes have one fault at most, lack of memory aside
+-- bytes have at most one fault, apart from lack of memory
 abbrev pub AtMostOneFault : (List ℕ → ProgramFault → Type 0) → Type 0
 AtMostOneFault IsFault =
     (bytes : List ℕ) (f g : ProgramFault) → IsFault bytes f → IsFault bytes g → f ≢ OutOfMemory → g ≢ OutOfMemory → f ≡ g

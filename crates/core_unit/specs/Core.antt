@@ -1,4 +1,4 @@
--- A core of the machine: its state, and what each of its steps leaves of it.
+-- A core of the machine: its state, and what each of its steps makes of it.
 use Rattle.std.specs.Prelude.{ℕ, ◌+◌, ◌%◌, Bool, true, false, ◌||◌, ◌==◌, nat_lt, if◌then◌else◌, List, [], ◌∷◌, ◌++◌, length, Option, Some, None, is_some}
 use Rattle.std.specs.FinMap as map
 use Rattle.mem_op.specs.declared.id.Op.{Op}
@@ -35,7 +35,7 @@ pub record Core : Type 0 where
   pub kept : Option Reply
   pub log : List Record
 
--- a core as a machine starts
+-- a core when a machine starts
 abbrev pub new_core : List Instruction → Core
 new_core program = record {
   program = program;
@@ -50,7 +50,7 @@ new_core program = record {
 
 -- ---- operations
 
--- the operation that the program issues next; none where it has ended
+-- the operation that the program issues next, or none if it has ended
 abbrev pub next_of : Core → Option Op
 next_of u = next_op u.program u.state
 
@@ -59,7 +59,7 @@ op_addr (op.Load a) = a
 op_addr (op.Store a value) = a
 op_addr (op.Swap a value) = a
 
--- the hit of an operation at a line, and None where it is a miss; `id` is the operation's own
+-- the hit of an operation at a line, or None if it is a miss; `id` is the operation's own
 abbrev pub op_hit : Op → OpId → ℕ → ℕ → Option Held → Option Hit
 op_hit (op.Load a) id pts r held = load_hit pts r held
 op_hit (op.Store a value) id pts r held = store_hit value (source.Store id) pts r held
@@ -69,11 +69,11 @@ op_hit (op.Swap a value) id pts r held = swap_hit value (source.Store id) pts r 
 abbrev pub next_id : ℕ → Core → OpId
 next_id c u = record { core = c; index = length u.log }
 
--- what the core's line makes of an operation
+-- the hit of this operation at the core's line, as the core's next one, or None if it is a miss
 abbrev pub tries : ℕ → Core → Op → Option Hit
 tries c u x = op_hit x (next_id c u) u.pts u.r (map.get u.lines (op_addr x))
 
--- the request of an operation that is a miss
+-- the request that an operation sends on a miss
 abbrev pub request : Op → ℕ → Option Held → Message
 request (op.Load a) pts held = ShReq a (copy_of held) pts
 request (op.Store a value) pts held = ExReq a (copy_of held)
@@ -82,19 +82,19 @@ request (op.Swap a value) pts held = ExReq a (copy_of held)
 abbrev pub next_request : Core → Op → Message
 next_request u x = request x u.pts (map.get u.lines (op_addr x))
 
--- the word with which an operation that has hit answers its program: the one that a load or a swap reads, and a store's own
+-- the word that an operation that has hit gives its program: the one that a load or a swap reads, or a store's own
 abbrev pub answer_of : Op → Hit → ℕ
 answer_of (op.Load a) hit = hit.value
 answer_of (op.Store a value) hit = value
 answer_of (op.Swap a value) hit = hit.value
 
--- the word in its record: the one that a load reads, and the one that a store or a swap stores
+-- the word in its record: the one that a load reads, or the one that a store or a swap stores
 abbrev pub word_logged : Op → Hit → ℕ
 word_logged (op.Load a) hit = hit.value
 word_logged (op.Store a value) hit = value
 word_logged (op.Swap a value) hit = value
 
--- how the record says that it was done: a load and a swap name the store that they read, and a swap also the word
+-- the act in its record: a load and a swap name the store that they read from, and a swap also the word that it read
 abbrev pub act_of : Op → Hit → Act
 act_of (op.Load a) hit = act.Load hit.source
 act_of (op.Store a value) hit = act.Store
@@ -104,7 +104,7 @@ act_of (op.Swap a value) hit = act.Swap hit.source hit.value
 abbrev pub record_of : Op → Hit → Record
 record_of x hit = record { value = word_logged x hit; ts = hit.stamp; rank = hit.rank; addr = op_addr x; act = act_of x hit }
 
--- after this number of operations a core increments its stamp
+-- whether a core increments its stamp after this number of operations
 abbrev pub is_due : ConfigParts → ℕ → Bool
 is_due g count = count % g.period == 0
 
@@ -139,18 +139,18 @@ has_given u kind a l = record u { lines = put u.lines a (left kind l); hand = So
 abbrev pub has_asked : Core → Message → Core
 has_asked u m = record u { hand = Some m; kept = None }
 
--- a reply was taken that makes the line of address a this one
+-- the core took a reply that makes this the line of address a
 abbrev pub has_taken : Core → ℕ → Held → Core
 has_taken u a held = record u { lines = put u.lines a (Some held); hand = None; kept = None }
 
--- a reply was taken that fills nothing
+-- the core took a reply that fills no line
 abbrev pub has_let_go : Core → Core
 has_let_go u = record u { hand = None; kept = None }
 
 abbrev pub has_bumped : Core → Core
 has_bumped u = record u { pts = self_increment u.pts; r = 0 }
 
--- a reply that fills a line is of a kind that the message asks for
+-- whether a reply fills a line and is of a kind that the message asks for
 abbrev pub fits : Message → Reply → Bool
 fits (ShReq a copy pts) (ShRep l) = true
 fits (ShReq a copy pts) (RenewRep rts) = is_some copy

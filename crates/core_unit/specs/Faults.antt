@@ -1,4 +1,4 @@
--- The texts of the faults, a number and a name, and where they come from.
+-- The texts of the faults, a number and a name, and the cache's faults as faults of a unit.
 use Rattle.std.specs.Prelude.{ℕ, List}
 use Rattle.mem_op.specs.Names.{name_text}
 use Rattle.mem_op.specs.declared.fault_name.FaultName.TheVariants as named
@@ -14,7 +14,7 @@ fault_text TranscriptFull = name_text named.TranscriptFull
 fault_text (Stamp fault) = stamp.fault_text fault
 fault_text OutOfMemory = name_text named.OutOfMemory
 
--- why a reply that fills no line is refused
+-- why a reply is refused when the cache doesn't fill its line
 abbrev pub of_fill : FillFault → UnitFault
 of_fill fill.BadReply = BadReply
 of_fill fill.OutOfMemory = OutOfMemory

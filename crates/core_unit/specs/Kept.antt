@@ -10,7 +10,7 @@ use Rattle.core_unit.specs.Core.{Core, next_of, op_addr, tries, next_request, ha
 use Rattle.core_unit.specs.Parts.{UnitParts, core_of, replayed}
 use Rattle.core_unit.specs.Replay.{CoreReplays}
 
--- a request is the miss of core c's next operation, and there is place for what it asks for
+-- the request is what core c's next operation sends on a miss, and there is room for the line that it asks for
 pub record IsAsked (g : ConfigParts) (c : ℕ) (u : Core) (m : Message) : Type 0 where
   pub op : Op
   pub next : next_of u ≡ Some op
@@ -18,7 +18,7 @@ pub record IsAsked (g : ConfigParts) (c : ℕ) (u : Core) (m : Message) : Type 0
   pub place : has_place g u (op_addr op) ≡ true
   pub is_request : m ≡ next_request u op
 
--- a request in hand is asked for; of a give-back in hand the replay tells
+-- a request in hand comes from the next operation's miss; a give-back in hand is part of the replay
 abbrev pub HandFits : ConfigParts → ℕ → Core → Option Message → Type 0
 HandFits g c u None = Unit {0}
 HandFits g c u (Some (ShReq a copy pts)) = IsAsked g c u (ShReq a copy pts)
@@ -26,7 +26,7 @@ HandFits g c u (Some (ExReq a copy)) = IsAsked g c u (ExReq a copy)
 HandFits g c u (Some (WbRep a l)) = Unit {0}
 HandFits g c u (Some (FlushRep a l)) = Unit {0}
 
--- the state is the replay of the transcript, but for a request in hand
+-- the state is the replay of the transcript, apart from a request in hand
 pub record Replays (p : UnitParts) : Type 0 where
   pub replay : CoreReplays p.config p.core p.program p.transcript (replayed p)
   pub hand : HandFits p.config p.core (core_of p None) p.hand

@@ -1,4 +1,4 @@
--- What holds of all core units.
+-- Laws of core units.
 use Rattle.std.specs.Prelude.{◌≡◌, ◌<◌, List, length, map, Some}
 use Rattle.mem_op.specs.Consistency.{Operation}
 use Rattle.log_record.specs.Entries.{operation_of}
@@ -12,8 +12,8 @@ use Rattle.core_unit.specs.Parts.{UnitParts}
 abbrev pub performed_by : UnitParts → List Operation
 performed_by p = map operation_of p.log
 
--- The operations of the log are the first that the program issues, each load and each swap with the word that it read. They are all of
--- them where the program has ended; else the log's PROGRAM fault is its length.
+-- The operations of the log are the first that the program issues, each load and each swap with the word that it read. If the program
+-- has ended, they are all of them; else the log's PROGRAM fault is at its length.
 pub record IsFront (p : UnitParts) : Type 0 where
   pub reaches : Reaches p.program (performed_by p) p.state
   pub whole : p.state.position ≡ length p.program → Conforms p.program (performed_by p)

@@ -34,14 +34,14 @@ pub data UnitOutcome : Type 0 where
   -- an outcome that makes an entry, and the unit after it
   Steps : Outcome → UnitParts → UnitOutcome
 
--- the call, with this result, led from p to q as the outcome says; only for lack of memory may a step be refused
+-- the call, with this result, led from p to q as the outcome says; a step may be refused only for lack of memory
 abbrev pub OutcomeLeads : UnitOutcome → Result Outcome UnitFault → UnitParts → UnitParts → Type 0
 OutcomeLeads (Refuses fault) r p q = (r ≡ Err fault) × (q ≡ p)
 OutcomeLeads (Answers o t) r p q = (r ≡ Ok o) × (q ≡ t)
 OutcomeLeads (Steps o t) r p q =
     MatchResult r (λ x. (x ≡ o) × (q ≡ t)) (λ fault. (fault ≡ OutOfMemory) × (q ≡ p))
 
--- one more entry is refused for this
+-- one more entry is refused with this fault
 abbrev pub IsLackOfRoom : List CoreEntry → UnitFault → Type 0
 IsLackOfRoom transcript fault =
     ((fault ≡ TranscriptFull) × (entry_limit ≤ length transcript)) ⊎ ((fault ≡ OutOfMemory) × (length transcript < entry_limit))
@@ -59,7 +59,7 @@ recorded p e fault o q =
 
 -- ---- an eviction
 
--- the line of address a goes; `tells` is the outcome where it is given back
+-- the line of address a goes; `tells` is the outcome if it is given back
 abbrev pub eviction : UnitParts → (Message → Outcome) → ℕ → Option Held → UnitOutcome
 eviction p tells a None = Answers NoEffect p
 eviction p tells a (Some (Shared l)) =
@@ -79,7 +79,7 @@ performed p x hit =
 abbrev pub perform_fault : UnitParts → Op → Hit → Option StampFault
 perform_fault p x hit = option_or (hit_fault (Some hit)) (past_limit (performed p x hit).pts 0)
 
--- a miss asks for its line where there is room for it; else the least recently used line has to go first
+-- a miss asks for its line if there is room for it; else the least recently used line has to go first
 abbrev pub miss_outcome : UnitParts → Op → Bool → Option ℕ → UnitOutcome
 miss_outcome p x true oldest =
     let m = next_request (core_of p None) x in
@@ -109,7 +109,7 @@ turn_outcome p = unless_barred p p.hand (next_outcome p (next_of (core_of p None
 abbrev pub without_hand : UnitParts → UnitParts
 without_hand p = record p { hand = None }
 
--- a reply fills this line, or none
+-- the reply makes this the line, or is refused because it doesn't fit
 abbrev pub fill_outcome : UnitParts → Message → Reply → Option Held → UnitOutcome
 fill_outcome p m x None = Refuses BadReply
 fill_outcome p m x (Some held) =
@@ -129,7 +129,7 @@ take_outcome p x = hand_outcome p x p.hand
 
 -- ---- a recall, an eviction and a self-increment
 
--- the line goes back so, or there is none to go back
+-- the core gives this line back, or has none to give back
 abbrev pub give_outcome : UnitParts → Recall → Option Line → UnitOutcome
 give_outcome p recall None = Answers NoEffect p
 give_outcome p recall (Some l) =

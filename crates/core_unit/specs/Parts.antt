@@ -23,7 +23,7 @@ pub record UnitParts : Type 0 where
   pub transcript : List CoreEntry
   pub log : List Record
 
--- the unit as the machine sees it, with no order of use, where this reply to the message in hand is kept
+-- the unit as the machine sees it: without the order of use, and with this reply kept for the message in hand
 abbrev pub core_of : UnitParts → Option Reply → Core
 core_of p kept = record {
   program = p.program;
@@ -36,7 +36,7 @@ core_of p kept = record {
   log = p.log;
 }
 
--- the message in hand, where it gives a line back
+-- the message in hand, if it gives a line back
 abbrev pub give_back_in : Option Message → Option Message
 give_back_in None = None
 give_back_in (Some (ShReq a copy pts)) = None
@@ -44,11 +44,11 @@ give_back_in (Some (ExReq a copy)) = None
 give_back_in (Some (WbRep a l)) = Some (WbRep a l)
 give_back_in (Some (FlushRep a l)) = Some (FlushRep a l)
 
--- the unit as a replay sees it, in which a request in hand isn't an entry
+-- the unit as a replay sees it: without a request in hand, which makes no entry
 abbrev pub replayed : UnitParts → Core
 replayed p = record (core_of p None) { hand = give_back_in p.hand }
 
--- it is still the same core, with the same program
+-- it is still the same core, with the same program and configuration
 pub record SameUnit (p q : UnitParts) : Type 0 where
   pub core : q.core ≡ p.core
   pub program : q.program ≡ p.program

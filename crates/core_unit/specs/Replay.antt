@@ -1,4 +1,4 @@
--- Transcripts that lead, entry by entry, from a core's opening state to another.
+-- Transcripts that lead, entry by entry, from a core's opening state to a later one.
 use Rattle.std.specs.Prelude.{◌≡◌, ℕ, Bool, true, List, Some, None}
 use Rattle.std.specs.FinMap as map
 use Rattle.mem_op.specs.declared.id.Op.{Op}
@@ -17,8 +17,8 @@ use Rattle.core_unit.specs.Core.{Core, new_core, next_of, op_addr, tries, next_r
 use Rattle.core_unit.specs.declared.entry.CoreEntry.{CoreEntry}
 use Rattle.core_unit.specs.declared.entry.CoreEntry.TheVariants.{Performed, Dropped, Gave, Got, Bumped}
 
--- An entry may lead core c from u to the state after it. In a replay a give-back alone is ever in hand, from its `Gave` to
--- the `Got` of its message: a request in hand isn't an entry.
+-- An entry may lead core c from u to the state after it. In a replay nothing but a give-back is ever in hand, from its `Gave`
+-- to the `Got` of its message: a request in hand makes no entry.
 pub data CoreStep (g : ConfigParts) (c : ℕ) (u : Core) : CoreEntry → Core → Type 0 where
   -- the next operation hits
   performs : (op : Op) (hit : Hit) → u.hand ≡ None → next_of u ≡ Some op → tries c u op ≡ Some hit →
@@ -28,7 +28,7 @@ pub data CoreStep (g : ConfigParts) (c : ℕ) (u : Core) : CoreEntry → Core �
   -- an eviction, or a recall that asks for this `rts`
   gives : (kind : RecallKind) (a : ℕ) (modified : Bool) (l : Line) (asked : ℕ) → u.hand ≡ None → map.get u.lines a ≡ Some (Exclusive modified l) →
       CoreStep g c u (Gave (give_back kind a (given kind l asked g.lease))) (has_given u kind a (given kind l asked g.lease))
-  -- the next operation misses, and there is place for what it asks for
+  -- the next operation misses, and there is room for the line that it asks for
   gets : (op : Op) (reply : Reply) (held : Held) → u.hand ≡ None → next_of u ≡ Some op → tries c u op ≡ None → has_place g u (op_addr op) ≡ true →
       fits (next_request u op) reply ≡ true → filled (map.get u.lines (op_addr op)) reply ≡ Some held →
       CoreStep g c u (Got (next_request u op) reply) (has_taken u (op_addr op) held)

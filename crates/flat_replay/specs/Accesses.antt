@@ -18,6 +18,6 @@ word_read (Swapped a r v) = Some r
 abbrev pub operation_lists : List (Vec Operation) → List (List Operation)
 operation_lists cores = map (λ core. core.items) cores
 
--- the operations of a core: none, where it isn't there
+-- the operations of a core, or none if it isn't there
 abbrev pub own_operations : List (List Operation) → ℕ → List Operation
 own_operations cores core = unwrap_or (slice_get cores core) []

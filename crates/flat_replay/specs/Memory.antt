@@ -1,4 +1,4 @@
--- One memory of words, all 0 at first: what operations find in it and leave.
+-- One memory of words, all 0 at first: what operations find in it, and what they leave.
 use Rattle.std.specs.Prelude.{◌≡◌, ℕ, ◌==◌, if◌then◌else◌, Option}
 use Rattle.std.specs.Option.{option_map_or}
 use Rattle.std.specs.Ordering.{nat_cmp}
@@ -6,13 +6,13 @@ use Rattle.std.specs.BTreeMap.{get}
 use Rattle.mem_op.specs.Consistency.{Operation, Loaded, Stored, Swapped}
 use Rattle.flat_replay.specs.declared.memory.Memory.{Memory}
 
--- a load answers the word of its address, and so does a swap by what it reads
+-- a load reads the word at its address, and so does a swap
 abbrev pub IsAnsweredBy : (ℕ → ℕ) → Operation → Type 0
 IsAnsweredBy memory (Loaded addr value) = value ≡ memory addr
 IsAnsweredBy memory (Stored addr value) = Unit {0}
 IsAnsweredBy memory (Swapped addr read stored) = read ≡ memory addr
 
--- a store writes the word of its address, and so does a swap
+-- the memory after an operation: a store writes the word at its address, and so does a swap
 abbrev pub after : Operation → (ℕ → ℕ) → ℕ → ℕ
 after (Loaded a value) memory addr = memory addr
 after (Stored a value) memory addr = if a == addr then value else memory addr
@@ -22,7 +22,7 @@ after (Swapped a read stored) memory addr = if a == addr then stored else memory
 abbrev pub last_at : {I : Type 0} → Memory I → ℕ → Option (ℕ × I)
 last_at memory addr = get nat_cmp memory.stores addr
 
--- the word that stands at an address after its last store: 0, where there is none
+-- the word at an address after its last store, or 0 if there is none
 abbrev pub word_after : {I : Type 0} → Option (ℕ × I) → ℕ
 word_after {I} last = option_map_or (λ (stored : ℕ × I). stored.0) last 0
 

@@ -7,11 +7,11 @@ use Rattle.line_stamps.specs.declared.fault.StampFault.TheVariants.{StampLimit, 
 abbrev pub load_stamp : ℕ → ℕ → ℕ
 load_stamp pts wts = max pts wts
 
--- a line that its owner has modified is written again without a stamp of its own
+-- a store comes after the line's lease, or at its end if the owner has modified the line already
 abbrev pub store_stamp : ℕ → ℕ → Bool → ℕ
 store_stamp pts rts modified = max pts (if modified then rts else rts + 1)
 
--- not below the core's rank at its own stamp, and above the rank of the line's store at that store's stamp
+-- at the core's own stamp, not below the core's rank; at the stamp of the line's store, above that store's rank
 abbrev pub rank_of : ℕ → ℕ → ℕ → ℕ → ℕ → ℕ
 rank_of t pts r wts wr = max (if t == pts then r else 0) (if t == wts then wr + 1 else 0)
 
@@ -26,12 +26,12 @@ write_back_rts s asked lease = max (max s.rts (s.wts + lease)) asked
 abbrev pub self_increment : ℕ → ℕ
 self_increment pts = pts + 1
 
--- this stamp, and the fault exactly where it is above the limit
+-- this stamp, or the fault exactly if it is above the limit
 abbrev pub AnswersStamp : Result ℕ StampFault → ℕ → Type 0
 AnswersStamp r t =
     MatchResult r (λ stamp. (stamp ≡ t) × (t ≤ 281474976710656)) (λ fault. (fault ≡ StampLimit) × (281474976710656 < t))
 
--- this rank, and the fault exactly where it is above the limit
+-- this rank, or the fault exactly if it is above the limit
 abbrev pub AnswersRank : Result ℕ StampFault → ℕ → Type 0
 AnswersRank r k =
     MatchResult r (λ rank. (rank ≡ k) × (k ≤ 4294967295)) (λ fault. (fault ≡ RankLimit) × (4294967295 < k))

@@ -4,7 +4,7 @@ use Rattle.lease_rule.specs.ConfigParts.{ConfigParts}
 use Rattle.lease_rule.specs.declared.fault.BadConfig.{BadConfig}
 use Rattle.lease_rule.specs.declared.fault.BadConfig.TheVariants.{Slices, Lease, Period, CacheLines, SliceLines, Inbox, Turns}
 
--- a number is from 1 to the greatest
+-- whether a number is from 1 to the greatest
 abbrev pub is_within : ℕ → ℕ → Bool
 is_within greatest n = nat_le 1 n && nat_le n greatest
 

@@ -3,7 +3,7 @@ use Rattle.std.specs.Prelude.{List, [], ◌∷◌, Option, Some, None, if◌then
 use Rattle.std.specs.declared.cmp.Ordering.{Ordering}
 use Rattle.std.specs.Ordering.{is_lt}
 
--- the lesser of two, and the first where they tie
+-- the lesser of two, or the first if they tie
 abbrev pub lesser : {F : Type 0} → (F → F → Ordering) → Option F → Option F → Option F
 lesser cmp None b = b
 lesser cmp (Some a) None = Some a

@@ -1,4 +1,4 @@
--- What a message speaks of.
+-- What a message is about.
 use Rattle.std.specs.Prelude.{ℕ}
 use Rattle.line_stamps.specs.declared.message.Message.{Message}
 use Rattle.line_stamps.specs.declared.message.Message.TheVariants.{ShReq, ExReq, WbRep, FlushRep}

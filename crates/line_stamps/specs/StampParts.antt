@@ -7,6 +7,6 @@ pub record StampParts : Type 0 where
   pub rts : ℕ
   pub wr : ℕ
 
--- the stamps with the lease extended to `t`, if it ends before
+-- the stamps with the lease extended to `t`, if it ends before that
 abbrev pub leased_to : ℕ → StampParts → StampParts
 leased_to t s = record { wts = s.wts; rts = max s.rts t; wr = s.wr }

@@ -1,4 +1,4 @@
--- The records of a set of logs, one log a core.
+-- The records of a set of logs, one log for each core.
 use Rattle.std.specs.Prelude.{ℕ, suc, List, [], ◌∷◌, ◌++◌, map, Option, slice_get, option_and_then}
 use Rattle.std.specs.declared.cmp.Ordering.{Ordering}
 use Rattle.std.specs.Global.{Vec}
@@ -23,7 +23,7 @@ operation_of r = operation_by r.act r.addr r.value
 abbrev pub operations_of : List (List Record) → List (List Operation)
 operations_of logs = map (map operation_of) logs
 
--- the record of an id
+-- the record with this id
 abbrev pub record_at : List (List Record) → OpId → Option Record
 record_at logs id = option_and_then (λ log. slice_get log id.index) (slice_get logs id.core)
 
@@ -34,12 +34,12 @@ key_of e = record { ts = e.logged.ts; rank = e.logged.rank; core = e.id.core; in
 abbrev pub entry_cmp : Entry → Entry → Ordering
 entry_cmp a b = key_cmp (key_of a) (key_of b)
 
--- the records of a core from an index on
+-- these records as entries of core c, the first with index i
 abbrev pub core_entries : ℕ → ℕ → List Record → List Entry
 core_entries c i [] = []
 core_entries c i (r ∷ rs) = record { id = record { core = c; index = i }; logged = r } ∷ core_entries c (suc i) rs
 
--- the records of a core and of those after it
+-- the records of these logs as entries of cores c, c + 1, ..
 abbrev pub entries_from : ℕ → List (List Record) → List Entry
 entries_from c [] = []
 entries_from c (log ∷ logs) = core_entries c 0 log ++ entries_from (suc c) logs

@@ -16,7 +16,7 @@ abbrev pub format_number : Format → ℕ
 format_number One = 1
 format_number Two = 2
 
--- whether a log of this format may have a record of this act: format 1 has no swaps
+-- whether a log of this format may have a record with this act: format 1 has no swaps
 abbrev pub has_act : Format → Act → Bool
 has_act format act.Store = true
 has_act format (act.Load s) = true
@@ -36,7 +36,7 @@ tag act.Store = codes "S"
 tag (act.Load s) = codes "L"
 tag (act.Swap s read) = codes "X"
 
--- the fields after those of every record
+-- the fields that come after those that every record has
 abbrev pub last_fields : Act → List (List ℕ)
 last_fields act.Store = []
 last_fields (act.Load s) = source_text s ∷ []
@@ -45,11 +45,11 @@ last_fields (act.Swap s read) = source_text s ∷ numeral read ∷ []
 abbrev pub fields_of : Record → List (List ℕ)
 fields_of r = tag r.act ∷ numeral r.addr ∷ numeral r.value ∷ numeral r.ts ∷ numeral r.rank ∷ last_fields r.act
 
--- a record's line: its fields, with a space between each two
+-- a record's line: its fields, with one space between them
 unfoldable pub record_text : Record → List ℕ
 record_text r = join_with_byte 32 (fields_of r)
 
--- the first line of a log of this format, of this core of `cores`
+-- the first line of a log in this format, for this core of `cores`
 unfoldable pub header_text : ℕ → ℕ → ℕ → List ℕ
 header_text format core cores =
     codes "tardis-log " ++ (numeral format ++ (codes " core " ++ (numeral core ++ (codes " of " ++ numeral cores))))
@@ -59,17 +59,17 @@ unfoldable pub end_text : ℕ → List ℕ
 end_text count = codes "end " ++ numeral count
 
 -- ---- the shapes
--- A number of a line may have any size. So a line has a record's shape where it is the text of some record,
--- of numbers of any size; the same below.
+-- A number in a line may have any size. So a line has the shape of a record if it is the text of some record,
+-- whatever the size of its numbers. Headers and end lines likewise.
 
--- of a record that a log of this format may have
+-- the shape of a record that a log of this format may have
 abbrev pub IsRecordShape : Format → List ℕ → Type 0
 IsRecordShape format line = (r : Record) × (line ≡ record_text r) × IsTrue (has_act format r.act)
 
 abbrev pub IsHeaderShape : ℕ → List ℕ → Type 0
 IsHeaderShape format line = (core : ℕ) × ((cores : ℕ) × (line ≡ header_text format core cores))
 
--- of a header of either format
+-- the shape of a header, in either format
 abbrev pub IsSomeHeader : List ℕ → Type 0
 IsSomeHeader line = (format : Format) × IsHeaderShape (format_number format) line
 
@@ -102,11 +102,11 @@ pub record FitsIn (format : Format) (r : Record) : Type 0 where
 
 -- ---- the lengths
 
--- the most bytes of the header of a log, its line feed not counted
+-- the most bytes that a log's header may have, without its line feed
 abbrev pub line_limit : ℕ
 line_limit = 80
 
--- The most bytes of a later line, by the log's format. No line of numbers in range has more.
+-- The most bytes that a later line may have, by the log's format. No line whose numbers are in range has more.
 abbrev pub limit_of : Format → ℕ
 limit_of One = line_limit
 limit_of Two = 96

@@ -1,4 +1,4 @@
--- The events of a run of threads, and the slices that one leaves that isn't ended.
+-- The events of a run of threads, and the slices that are left if a run is cut short.
 use Rattle.std.specs.Prelude.{◌≡◌, ◌⊎◌, ℕ, All, List, [], length, map, None}
 use Rattle.lease_rule.specs.ConfigParts.{ConfigParts}
 use Rattle.core_program.specs.declared.instruction.Instruction.{Instruction}
@@ -24,12 +24,12 @@ pub record AreSlices (n : ℕ) (ss : List SliceParts) : Type 0 where
   pub count : length ss ≡ n
   pub replays : All Replays ss
 
--- memory was refused beside the cores, and no unit and no slice is left
+-- memory was refused outside the cores' runs, and no unit and no slice is left
 pub record IsNothingLeft (cause : Cause) (us : List UnitParts) (ss : List SliceParts) : Type 0 where
   pub refused : cause ≡ OutOfMemory
   pub units : us ≡ []
   pub slices : ss ≡ []
 
--- what a run of n slices leaves that isn't ended for this reason: all n of them, or nothing where memory was refused beside the cores
+-- what is left if this cause cuts a run short: all n slices, or nothing if memory was refused outside the cores' runs
 abbrev pub AreSlicesLeft : ℕ → Cause → List UnitParts → List SliceParts → Type 0
 AreSlicesLeft n cause us ss = AreSlices n ss ⊎ IsNothingLeft cause us ss

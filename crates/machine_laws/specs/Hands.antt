@@ -20,13 +20,13 @@ use Rattle.core_unit.specs.Core.{Core, has_place, fits}
 use Rattle.core_machine.specs.Machine.{World}
 use Rattle.machine_laws.specs.Settled.{Settled}
 
--- a core has a line as Exclusive exactly where the line is managed as its own
+-- a core has a line as Exclusive exactly if the line is managed as its own
 pub record AgreeOnOwners (x : Settled) : Type 0 where
   pub owner : (c a : ℕ) (modified : Bool) (l : Line) → x.entry c a ≡ Some (Exclusive modified l) → x.managed a ≡ managed.Exclusive c
   pub owned : (c a : ℕ) → x.managed a ≡ managed.Exclusive c → (modified : Bool) × (l : Line) × (x.entry c a ≡ Some (Exclusive modified l))
 
--- a message in hand speaks of the line as it is: a request tells of the copy that is there, and of a line that is given back is there
--- what such a message leaves
+-- a message in hand is true of the line: a request names the copy that is there, and after a give-back the core has what such a
+-- message leaves
 abbrev pub HandTells : Option Message → Lines → Type 0
 HandTells None lines = Unit {0}
 HandTells (Some (ShReq a copy pts)) lines = copy ≡ copy_of (map.get lines a)
@@ -40,7 +40,7 @@ HandsTell w = (c : ℕ) (u : Core) → slice_get w.cores c ≡ Some u → HandTe
 -- the reply that is kept, if there is one, answers the message in hand
 pub data ReplyFits (g : ConfigParts) (u : Core) : Type 0 where
   no_message : u.hand ≡ None → u.kept ≡ None → ReplyFits g u
-  -- of a message that isn't served: if it is a request, its line is there or one more fits
+  -- the message isn't served yet; if it is a request, its line is there or one more fits
   unserved : (m : Message) → u.hand ≡ Some m → u.kept ≡ None → (is_request m ≡ true → has_place g u (addr_of m) ≡ true) → ReplyFits g u
   busy : (m : Message) (x : Recall) → u.hand ≡ Some m → u.kept ≡ Some (Busy x) → is_request m ≡ true → ReplyFits g u
   taken : (m : Message) → u.hand ≡ Some m → u.kept ≡ Some Taken → is_request m ≡ false → ReplyFits g u

@@ -1,5 +1,5 @@
 -- The laws of the core machine: what holds after every list of events, with any recalls, evictions, spills and self-increments, and
--- by every configuration.
+-- for every configuration.
 use Rattle.std.specs.Prelude.{◌≡◌, ℕ, false, List, [], ◌∷◌, length, map, All}
 use Rattle.mem_op.specs.Consistency.{IsConsistent}
 use Rattle.lease_rule.specs.ConfigParts.{ConfigParts}
@@ -32,7 +32,7 @@ use Rattle.machine_laws.specs.Hands.{AgreeOnOwners, HandsTell, RepliesFit}
 abbrev pub IsReachedFrom : List (List Instruction) → ConfigParts → World → Type 0
 IsReachedFrom programs g w = (events : List Event) × Run g (opening programs g.slices) events w
 
--- the operations that each core has performed so far
+-- the records of the operations that each core has performed so far
 abbrev pub logs_of : World → List (List Record)
 logs_of w = map (λ u. u.log) w.cores
 
@@ -83,7 +83,7 @@ abbrev pub RunsAreConsistent : Type 0
 RunsAreConsistent =
     (programs : List (List Instruction)) (g : ConfigParts) (w : World) → IsReachedFrom programs g w → IsConsistent (operations_of (logs_of w))
 
--- where every program has ended, they get Yes against the programs too
+-- if every program has ended, they get Yes against the programs too
 abbrev pub EndedRunsGetYes : Type 0
 EndedRunsGetYes =
     (programs : List (List Instruction)) (g : ConfigParts) (w : World) → IsReachedFrom programs g w → HaveEnded w →
@@ -100,13 +100,13 @@ EndedRunsAreFlat =
 abbrev pub unit_logs : List UnitParts → List (List Record)
 unit_logs us = map (λ u. u.log) us
 
--- where the whole lists of the units and slices of one machine have a merge, the units' logs get Yes
+-- if the whole lists of the units and slices of one machine have a merge, the units' logs get Yes
 abbrev pub MergedLogsGetYes : Type 0
 MergedLogsGetYes =
     (g : ConfigParts) (us : List UnitParts) (ss : List SliceParts) → AreOneMachine g us ss → HasMerge (transcripts us) (histories ss) →
     GetYes (unit_logs us)
 
--- those of a whole run of programs get Yes against the programs too
+-- the logs of a whole run of programs get Yes against the programs too
 abbrev pub WholeRunsGetYes : Type 0
 WholeRunsGetYes =
     (programs : List (List Instruction)) (g : ConfigParts) (us : List UnitParts) (ss : List SliceParts) → IsRun programs g us ss →
@@ -114,11 +114,11 @@ WholeRunsGetYes =
 
 -- ---- a run
 
--- one core with one line of program, a store of 7 to address 5
+-- one core, whose program is one store of 7 to address 5
 abbrev pub one_store : List (List Instruction)
 one_store = (instruction.Store 5 7 ∷ []) ∷ []
 
--- a configuration, of one slice
+-- a configuration with one slice
 abbrev pub one_slice : ConfigParts
 one_slice = record { slices = 1; lease = 10; period = 100; cache_lines = 64; slice_lines = 64; inbox = 64; turns = 1000 }
 

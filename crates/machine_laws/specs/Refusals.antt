@@ -11,18 +11,18 @@ use Rattle.core_machine.specs.declared.event.Event.{Event}
 use Rattle.core_machine.specs.declared.fault.CoreFault.{CoreFault}
 use Rattle.core_machine.specs.declared.fault.CoreFault.TheVariants.{Unit, Slice}
 
--- 14 BadReply, a reply that doesn't fit the message in hand; or 11 NotOwner, a line given back by another core than its owner
+-- 14 BadReply, if a reply doesn't fit the message in hand; or 11 NotOwner, if a core gives back a line that it doesn't own
 abbrev pub is_protocol_fault : CoreFault → Bool
 is_protocol_fault (Unit unit_fault.BadReply) = true
 is_protocol_fault (Slice slice_fault.NotOwner) = true
 is_protocol_fault fault = false
 
--- no machine that some events lead to refuses an event so
+-- no machine that some events lead to refuses an event with such a fault
 abbrev pub NoProtocolFault : Type 0
 NoProtocolFault =
     (p : CoreParts) (e : Event) (fault : CoreFault) → IsMachine p → MayRefuse (step_outcome p e) fault → is_protocol_fault fault ≡ false
 
--- no event of any list is refused so
+-- no event of any list is refused with such a fault
 abbrev pub NoRunMeetsOne : Type 0
 NoRunMeetsOne =
     (programs : List (List Instruction)) (g : ConfigParts) (events : List Event) (at : ℕ) (fault : CoreFault) →

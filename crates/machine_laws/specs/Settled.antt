@@ -21,7 +21,7 @@ use Rattle.core_unit.specs.Core.{Core}
 use Rattle.core_machine.specs.Machine.{World, slice_number}
 use Rattle.machine_laws.specs.Views.{View}
 
--- what each core has of each address, and what is managed there; a line in memory counts as Shared
+-- what each core has at each address, and how the line there is managed; a line in memory counts as Shared
 pub record Settled : Type 0 where
   pub entry : ℕ → ℕ → Option Held
   pub managed : ℕ → ManagedLine
@@ -51,7 +51,7 @@ abbrev pub with_hand : Option Message → Option Reply → ℕ → Option Held �
 with_hand None kept a entry = entry
 with_hand (Some m) kept a entry = if addr_of m == a then arrived kept m entry else entry
 
--- what a core has of an address
+-- what a core has at an address
 abbrev pub entry_of : Core → ℕ → Option Held
 entry_of u a = with_hand u.hand u.kept a (map.get u.lines a)
 
@@ -68,7 +68,7 @@ r_at u = option_map_or (λ v. v.r) u 0
 abbrev pub log_of : Option Core → List Record
 log_of u = option_map_or (λ v. v.log) u []
 
--- the line of memory in which nothing is stored
+-- the line of an address to which nothing was stored
 abbrev pub blank_line : Line
 blank_line = record { value = 0; source = Init; stamps = record { wts = 0; rts = 0; wr = 0 } }
 

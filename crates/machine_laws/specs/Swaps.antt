@@ -21,13 +21,13 @@ pub record SwapHits (w : World) (c a word : ℕ) (hit : Hit) : Type 0 where
   pub free : core.hand ≡ None
   pub hits : tries c core (Swap a word) ≡ Some hit
 
--- what was read is right, where this is the right store: its source is that store and its word the one stored, or `init` and 0 where
--- there is none
+-- what was read is right if this is the right store: its source is that store and its word the one stored, or `init` and 0 if there
+-- is none
 pub record IsRightRead (source : Source) (read : ℕ) (right : Option Entry) : Type 0 where
   pub store : is_source source right ≡ true
   pub word : read ≡ value_from right
 
--- of the machine w, what is seen of it at each address, and its logs
+-- what holds of the machine w, what is seen of it at each address, and its logs
 pub record HasSwaps (w : World) (v : View) (logs : List (List Record)) : Type 0 where
   -- a swap that hits reads the value and the source of its line's home
   pub reads : (c a word : ℕ) (hit : Hit) → SwapHits w c a word hit → (hit.value ≡ (v.home a).value) × (hit.source ≡ (v.home a).source)

@@ -13,7 +13,7 @@ pub record AtMost (ts rank ts' rank' : ℕ) : Type 0 where
   pub time : ts ≤ ts'
   pub tie : ts ≡ ts' → rank ≤ rank'
 
--- p, of index j of core d, has a lesser key than q, of index i of core c
+-- p, which is operation j of core d, has a lesser key than q, operation i of core c
 pub record Earlier (d j : ℕ) (p : Record) (c i : ℕ) (q : Record) : Type 0 where
   pub time : p.ts ≤ q.ts
   pub rank : p.ts ≡ q.ts → p.rank ≤ q.rank
@@ -38,20 +38,20 @@ IsSourced v (Store id) a x ts rank = IsStoreAt v id a x ts rank
 
 -- ---- which stores are not after a source
 
--- p, of index j of core d, has a lesser key than the operation of this id
+-- p, which is operation j of core d, has a lesser key than this id's operation
 pub record IsBehind (v : View) (id : OpId) (d j : ℕ) (p : Record) : Type 0 where
   pub store : Record
   pub did : Did v id.core id.index store
   pub earlier : Earlier d j p id.core id.index store
 
--- a store is the source, or has a lesser key
+-- p, which is operation j of core d, is the source, or has a lesser key than it
 abbrev pub NotAfter : View → Source → ℕ → ℕ → Record → Type 0
 NotAfter v Init d j p = ⊥
 NotAfter v (Store id) d j p = ((d ≡ id.core) × (j ≡ id.index)) ⊎ IsBehind v id d j p
 
 -- ---- what was read
 
--- this id's operation is a store of x to the address of q, with a lesser key than q, of index i of core c
+-- this id's operation is a store of x to the address of q, with a lesser key than q, which is operation i of core c
 pub record IsFrom (v : View) (id : OpId) (x c i : ℕ) (q : Record) : Type 0 where
   pub store : Record
   pub did : Did v id.core id.index store
@@ -64,7 +64,7 @@ abbrev pub ComesFrom : View → Source → ℕ → ℕ → ℕ → Record → Ty
 ComesFrom v Init x c i q = x ≡ 0
 ComesFrom v (Store id) x c i q = IsFrom v id x c i q
 
--- x is the value of the last store to q's address with a lesser key than q, and this is its source
+-- x is the value of the last store to q's address with a lesser key than q, and this is its source; or 0 and `Init` if there is none
 pub record IsRight (v : View) (c i : ℕ) (q : Record) (source : Source) (x : ℕ) : Type 0 where
   pub comes : ComesFrom v source x c i q
   -- each store to the address is not after the source, or is q itself (a swap is a store as well), or is later than q
@@ -79,10 +79,10 @@ pub record HasVersions (v : View) : Type 0 where
   pub copy_source : (c a : ℕ) (k : Line) → v.copy c a ≡ Some k → IsSourced v k.source a k.value k.stamps.wts k.stamps.wr
   -- a copy is of its line's version, or ends before that was written
   pub version : (c a : ℕ) (k : Line) → v.copy c a ≡ Some k → (k.source ≡ (v.home a).source) ⊎ (k.stamps.rts < (v.home a).stamps.wts)
-  -- no store is after the line's source; and after that of a copy are only those that its lease ends before
+  -- no store comes after the line's source; and after a copy's source come only stores that are later than the copy's lease
   pub last : (d j : ℕ) (p : Record) → Did v d j p → is_store p.act ≡ true → NotAfter v (v.home p.addr).source d j p
   pub copy_last : (c : ℕ) (k : Line) (d j : ℕ) (p : Record) → v.copy c p.addr ≡ Some k → Did v d j p → is_store p.act ≡ true → NotAfter v k.source d j p ⊎ (k.stamps.rts < p.ts)
-  -- each operation has read the last store before it
+  -- each load and each swap has read the last store before it
   pub right : (c i : ℕ) (q : Record) (source : Source) (x : ℕ) → Did v c i q → read_of q ≡ Some (source, x) → IsRight v c i q source x
 
 -- ---- equal stamps

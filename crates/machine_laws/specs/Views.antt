@@ -7,7 +7,7 @@ use Rattle.log_record.specs.declared.act.Act.TheVariants.{Load, Store, Swap}
 use Rattle.log_record.specs.declared.record.Record.{Record}
 
 pub record View : Type 0 where
-  -- the line from which copies are made: the owner's where there is one, else the slice's or the memory's
+  -- the line from which copies are made: the owner's if there is one, else the slice's or the memory's
   pub home : ℕ → Line
   -- a core's copy of it, which may be old
   pub copy : ℕ → ℕ → Option Line
@@ -17,11 +17,11 @@ pub record View : Type 0 where
   pub r : ℕ → ℕ
   pub log : ℕ → List Record
 
--- core c has performed q as its operation of index i
+-- core c has performed q as its operation i
 pub record Did (v : View) (c i : ℕ) (q : Record) : Type 0 where
   pub is : slice_get (v.log c) i ≡ Some q
 
--- what an operation has read, and from which source: a swap the word that it took the place of; a store reads nothing
+-- what an operation has read, and from which source: a swap reads the word that it replaces, and a store reads nothing
 abbrev pub read_by : Act → ℕ → Option (Source × ℕ)
 read_by (Load source) value = Some (source, value)
 read_by Store value = None

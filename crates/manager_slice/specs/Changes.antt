@@ -1,4 +1,4 @@
--- What evictions and services leave of a slice's state, in its order of service.
+-- A slice's state after evictions and services, with its order of service.
 use Rattle.std.specs.Prelude.{ℕ, nat_eq, List, [], ◌∷◌, Option, Some, None}
 use Rattle.std.specs.FinMap.{from_entries}
 use Rattle.std.specs.Map.{remove_entry}
@@ -12,7 +12,7 @@ use Rattle.manager_slice.specs.declared.managed.HistoryEntry.TheVariants.{Evicte
 use Rattle.manager_slice.specs.declared.managed.ManagedLine.{ManagedLine}
 use Rattle.manager_slice.specs.declared.state.SliceState.{SliceState}
 
--- the state as the table sees it, with no order
+-- the state as the table sees it, without the order
 abbrev pub slice_of : SliceState → Slice
 slice_of s = record { lines = from_entries s.lines; memory = s.memory }
 
@@ -25,11 +25,11 @@ abbrev pub after_eviction : Option (ℕ × Line) → SliceState → SliceState
 after_eviction None s = s
 after_eviction (Some e) s = spilled s e.0 e.1
 
--- the line of address a was left so, and is now the most recently served
+-- the line of address a is now this one, and the most recently served
 abbrev pub served : SliceState → ℕ → ManagedLine → SliceState
 served s a x = record { lines = (a, x) ∷ remove_entry (nat_eq a) s.lines; memory = s.memory }
 
--- the entries of a message that was answered
+-- the entries of the history for a message that was answered
 abbrev pub entries_of : Option (ℕ × Line) → ℕ → Message → Reply → List HistoryEntry
 entries_of None c m r = Served c m r ∷ []
 entries_of (Some e) c m r = Evicted e.0 ∷ Served c m r ∷ []

@@ -1,4 +1,4 @@
--- What holds of all slices.
+-- Laws of slices.
 use Rattle.std.specs.Prelude.{◌≡◌, ◌≢◌, ◌↔◌, ℕ, false, nat_eq, Some}
 use Rattle.std.specs.Map.{lookup}
 use Rattle.line_stamps.specs.declared.message.Message.{Message}
@@ -9,7 +9,7 @@ use Rattle.manager_slice.specs.Parts.{SliceParts}
 use Rattle.manager_slice.specs.declared.fault.SliceFault.TheVariants.{NotOwner}
 use Rattle.manager_slice.specs.declared.managed.ManagedLine.TheVariants.{Exclusive}
 
--- 11 comes exactly where a line is given back by a core that isn't its owner
+-- 11 comes exactly if a core gives back a line that it doesn't own
 abbrev pub OnlyOwnersGiveBack : Type 0
 OnlyOwnersGiveBack =
     (p : SliceParts) (c : ℕ) (m : Message) →

@@ -5,7 +5,7 @@ use Rattle.line_stamps.specs.declared.message.Message.TheVariants.{ShReq, ExReq,
 use Rattle.line_stamps.specs.declared.message.Reply.{Reply}
 use Rattle.line_stamps.specs.declared.message.Reply.TheVariants.{ShRep, ExRep, RenewRep, UpgradeRep, Taken, Busy}
 
--- the other messages give a line back
+-- whether a message is a request; the others give a line back
 abbrev pub is_request : Message → Bool
 is_request (ShReq a copy pts) = true
 is_request (ExReq a copy) = true

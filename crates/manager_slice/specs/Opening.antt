@@ -1,4 +1,4 @@
--- Slices as a machine starts.
+-- Slices when a machine starts.
 use Rattle.std.specs.Prelude.{ℕ, zero, suc, List, [], ◌∷◌, ◌++◌}
 use Rattle.std.specs.FinMap as map
 use Rattle.lease_rule.specs.ConfigParts.{ConfigParts}

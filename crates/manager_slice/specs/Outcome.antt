@@ -28,14 +28,14 @@ pub data Outcome (A : Type 0) : Type 0 where
   -- an answer that appends these entries to the history and leaves this state
   Steps : A → List HistoryEntry → SliceState → Outcome A
 
--- the call, with this result, led from p to q as the outcome says; only for lack of memory may a step be refused
+-- the call, with this result, led from p to q as the outcome says; a step may be refused only for lack of memory
 abbrev pub OutcomeLeads : {A : Type 0} → Outcome A → Result A SliceFault → SliceParts → SliceParts → Type 0
 OutcomeLeads (Refuses fault) r p q = (r ≡ Err fault) × (q ≡ p)
 OutcomeLeads (Answers x) r p q = (r ≡ Ok x) × (q ≡ p)
 OutcomeLeads (Steps x es s) r p q =
     MatchResult r (λ y. (y ≡ x) × (q ≡ record p { state = s; history = p.history ++ es })) (λ fault. (fault ≡ OutOfMemory) × (q ≡ p))
 
--- a step, where its entries fit into the history
+-- a step if its entries fit into the history, or else a refusal
 abbrev pub step_of : {A : Type 0} → SliceParts → A → List HistoryEntry → SliceState → Outcome A
 step_of p x es s = if nat_le (length p.history + length es) entry_limit then Steps x es s else Refuses HistoryFull
 
@@ -58,7 +58,7 @@ line_outcome p a (Some (Shared l)) = step_of p true (Evicted a ∷ []) (spilled 
 abbrev pub evict_outcome : SliceParts → ℕ → Outcome Bool
 evict_outcome p a = line_outcome p a (lookup (nat_eq a) p.state.lines)
 
--- a reply to core c's message, and what it left, are of the table; and so are the entries that were appended
+-- the table allows this reply to core c's message, the entries that were appended, and what is left
 pub record IsHandled (p : SliceParts) (c : ℕ) (m : Message) (r : Reply) (q : SliceParts) : Type 0 where
   pub number : q.number ≡ p.number
   pub config : q.config ≡ p.config

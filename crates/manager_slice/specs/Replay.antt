@@ -1,4 +1,4 @@
--- Histories that lead, entry by entry through the table, from state to state.
+-- Histories that lead, entry by entry through the table, from one state to another.
 use Rattle.std.specs.Prelude.{◌≤◌, nat_eq, List, length}
 use Rattle.std.specs.List.{IsDistinct}
 use Rattle.std.specs.Map.{keys_of}

@@ -27,11 +27,11 @@ pub record Slice : Type 0 where
   pub lines : FinMap nat_cmp ManagedLine
   pub memory : MemorySlice
 
--- a slice as a machine starts: no lines, and nothing in memory
+-- a slice when a machine starts: no lines, and nothing in memory
 abbrev pub opening : Slice
 opening = record { lines = map.empty; memory = record { words = map.empty; mts = 0; mrank = 0 } }
 
--- the line as a request meets it, filled from memory where it is absent
+-- the line as a request meets it, filled from memory if it is absent
 abbrev pub met_line : Slice → ℕ → ManagedLine
 met_line s a = unwrap_or (map.get s.lines a) (Shared (filled_line s.memory a))
 
@@ -50,12 +50,12 @@ leased l pts g = record {
   stamps = record { wts = l.stamps.wts; rts = renewed_rts l.stamps pts g.lease; wr = l.stamps.wr };
 }
 
--- a request's copy is of the line's version
+-- whether a request's copy is of the line's version
 abbrev pub is_copy : Option ℕ → Line → Bool
 is_copy None l = false
 is_copy (Some wts) l = wts == l.stamps.wts
 
--- the answer to a request to read, where the line was leased
+-- the answer to a request to read, after the line was leased
 abbrev pub share_reply : Option ℕ → Line → Reply
 share_reply copy l = if is_copy copy l then RenewRep l.stamps.rts else ShRep l
 

@@ -1,6 +1,6 @@
--- How much there is at most.
+-- Limits.
 use Rattle.std.specs.Prelude.{ℕ}
 
--- the operations of a core
+-- the most operations that a core may have
 abbrev pub operation_limit : ℕ
 operation_limit = 1048576

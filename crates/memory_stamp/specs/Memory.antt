@@ -8,11 +8,11 @@ use Rattle.line_stamps.specs.declared.line.Line.{Line}
 use Rattle.memory_stamp.specs.StoredParts.{StoredParts}
 use Rattle.memory_stamp.specs.declared.memory.MemorySlice.{MemorySlice}
 
--- the word at an address: 0 and from no store where none was put back
+-- the word at an address; it is 0 and from no store if none was put back there
 abbrev pub word_at : FinMap nat_cmp StoredParts → ℕ → StoredParts
 word_at words a = unwrap_or (map.get words a) (record { value = 0; source = Init })
 
--- a line filled from memory: its lease ends as it begins, at the memory stamp
+-- a line filled from memory: its lease begins and ends at the memory stamp
 abbrev pub filled_line : MemorySlice → ℕ → Line
 filled_line m a =
     let word = word_at m.words a in

@@ -1,4 +1,4 @@
--- How a log that is read keeps the bytes that weren't fed yet.
+-- How a log that is being read keeps the bytes that its reader hasn't had yet.
 use Rattle.std.specs.Prelude.{◌-◌, ◌<◌, ◌≤◌, length, take, drop}
 use Rattle.merge_judge.specs.declared.open_log.OpenLog.TheInside.{Inside}
 use Rattle.merge_judge.specs.OpenedLog.{OpenedLog}

@@ -1,4 +1,4 @@
--- The text of an order: a line for each id, and a last line with their number.
+-- The text of an order: a line for each id, and a last line that counts them.
 use Rattle.std.specs.Prelude.{◌≡◌, ℕ, ◌<◌, List, [], ◌∷◌, ◌++◌, codes, length, take}
 use Rattle.std.specs.Fmt.{decimal}
 use Rattle.std.specs.List.{flat_map}
@@ -18,7 +18,7 @@ end_line count = codes "end " ++ decimal count ++ 10 ∷ []
 abbrev pub order_text : List OpId → List ℕ
 order_text order = id_lines order ++ end_line (length order)
 
--- a beginning of the order text of some ids, which hasn't the whole `end` line
+-- a beginning of the order text of some ids, without the whole `end` line
 abbrev pub LacksEnd : List ℕ → Type 0
 LacksEnd written =
     (order : List OpId) × ((n : ℕ) × (n < length (order_text order)) × (written ≡ take n (order_text order)))

@@ -1,4 +1,4 @@
--- Logs whose records are there.
+-- Logs that are given as records.
 use Rattle.std.specs.Prelude.{ℕ, ◌+◌, ◌≤◌, Bool, false, List, [], ◌∷◌, length, map}
 use Rattle.std.specs.List.{AllByRecursion}
 use Rattle.mem_op.specs.Limits.{operation_limit}
@@ -11,7 +11,7 @@ pub record AreOfLog (records : List Record) : Type 0 where
   pub few : length records ≤ operation_limit
   pub fit : AllByRecursion (FitsIn Two) records
 
--- the log of this core of so many cores, and whether its records were handed over
+-- the log of this core of `cores`, and whether its records were handed over
 pub record GivenLog : Type 0 where
   pub core : ℕ
   pub cores : ℕ

@@ -8,5 +8,5 @@ pub record Steps : Type 0 where
   pub left : ℕ
   -- how many of those are kept for what comes later
   pub kept : ℕ
-  -- how many were made when a watch was told last
+  -- how many were made when a watch was last told
   pub told : ℕ

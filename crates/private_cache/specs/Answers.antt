@@ -20,7 +20,7 @@ use Rattle.private_cache.specs.declared.held.Held.{Held}
 use Rattle.private_cache.specs.declared.held.Held.TheVariants.{Shared, Exclusive}
 use Rattle.private_cache.specs.Table.{Hit, copy_of}
 
--- the limit that a stamp, or else a rank, is above
+-- the limit that a stamp exceeds, or else a rank
 abbrev pub past_limit : ℕ → ℕ → Option StampFault
 past_limit stamp rank =
     if nat_le stamp 281474976710656 then (if nat_le rank 4294967295 then None else Some RankLimit) else Some StampLimit
@@ -35,22 +35,22 @@ abbrev pub give_fault : Option Line → Option StampFault
 give_fault None = None
 give_fault (Some l) = past_limit l.stamps.rts 0
 
--- a load by a core of stamp `pts`, of an address with this line before it
+-- the answer to a load by a core of stamp `pts` from an address that had this line before
 abbrev pub load_answer : ℕ → ℕ → Option Held → Option Hit → Load
 load_answer a pts held None = load.Miss (ShReq a (copy_of held) pts)
 load_answer a pts held (Some hit) = load.Hit hit.value hit.source hit.stamp hit.rank
 
--- a store to an address with this line before it
+-- the answer to a store to an address that had this line before
 abbrev pub store_answer : ℕ → Option Held → Option Hit → Store
 store_answer a held None = store.Miss (ExReq a (copy_of held))
 store_answer a held (Some hit) = store.Hit hit.stamp hit.rank
 
--- a swap at an address with this line before it
+-- the answer to a swap at an address that had this line before
 abbrev pub swap_answer : ℕ → Option Held → Option Hit → Swap
 swap_answer a held None = swap.Miss (ExReq a (copy_of held))
 swap_answer a held (Some hit) = swap.Hit hit.value hit.source hit.stamp hit.rank
 
--- an eviction of an address with this line
+-- the answer to an eviction of an address that had this line
 abbrev pub evict_answer : ℕ → Option Held → Evicted
 evict_answer a None = Nothing
 evict_answer a (Some (Shared l)) = Dropped

@@ -20,7 +20,7 @@ pub record CacheParts : Type 0 where
 abbrev pub lines_code : Coded Lines
 lines_code = map.code coded_ℕ held.the_row.coded
 
--- by which a proof tells two caches apart
+-- a code by which a proof tells two caches apart
 abbrev pub cache_code : Coded CacheParts
 cache_code =
     code_by (Lines × (List ℕ × ℕ)) (coded× lines_code (coded× (coded_list coded_ℕ) coded_ℕ))

@@ -1,4 +1,4 @@
--- What each call makes of a cache: of its lines by the table, and of the order of use.
+-- What each call makes of a cache: of its lines, by the table, and of the order of use.
 use Rattle.std.specs.Prelude.{◌≡◌, ℕ, ◌-◌, ◌≤◌, Bool, true, false, not, ◌||◌, nat_eq, nat_lt, if◌then◌else◌, [], ◌∷◌, length, slice_get, Option, Some, None, is_some}
 use Rattle.std.specs.FinMap as map
 use Rattle.std.specs.Set.{remove_key}
@@ -40,21 +40,21 @@ abbrev pub after_operation : CacheParts → ℕ → Option Hit → CacheParts
 after_operation c a None = c
 after_operation c a (Some hit) = used c a hit.held
 
--- what an owner keeps isn't used by that
+-- a line that its owner keeps doesn't count as used by that
 abbrev pub with_left : CacheParts → ℕ → Option Held → CacheParts
 with_left c a None = without c a
 with_left c a (Some held) = kept c a held
 
--- where nothing is given back, nothing changes
+-- if nothing is given back, nothing changes
 abbrev pub after_recall : CacheParts → Recall → Option Line → CacheParts
 after_recall c recall None = c
 after_recall c recall (Some l) = with_left c recall.addr (left recall.kind l)
 
--- there is room for one more line, or the address is there
+-- there is room for one more line, or the address has one
 abbrev pub has_room : CacheParts → ℕ → Bool
 has_room c a = nat_lt (map.len c.lines) c.capacity || is_some (line_at c a)
 
--- the line that a reply makes, and None where the reply doesn't fit the line or the cache
+-- the line that a reply makes, or None if the reply doesn't fit the line or the cache
 abbrev pub fill_line : CacheParts → ℕ → Reply → Option Held
 fill_line c a reply = if has_room c a then filled (line_at c a) reply else None
 
@@ -65,7 +65,7 @@ abbrev pub is_exclusive : Option Held → Bool
 is_exclusive None = false
 is_exclusive (Some held) = not (is_shared held)
 
--- the least address whose line is Exclusive, and None where no line is
+-- the least address whose line is Exclusive, or None if no line is
 abbrev pub IsLeastExclusive : CacheParts → Option ℕ → Type 0
 IsLeastExclusive c None = (a : ℕ) → is_exclusive (line_at c a) ≡ false
 IsLeastExclusive c (Some least) =

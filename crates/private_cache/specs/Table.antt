@@ -15,7 +15,7 @@ use Rattle.private_cache.specs.declared.held.Held.{Held}
 use Rattle.private_cache.specs.declared.held.Held.TheVariants.{Shared, Exclusive}
 use Rattle.private_cache.specs.CacheParts.{Lines}
 
--- the lines with this one at the address
+-- the lines with this one at the address, or with none there
 abbrev pub put : Lines → ℕ → Option Held → Lines
 put lines a None = map.remove lines a
 put lines a (Some held) = map.insert lines a held
@@ -31,7 +31,7 @@ is_shared (Exclusive modified l) = false
 abbrev pub with_rts : Line → ℕ → Line
 with_rts l rts = record l { stamps = record l.stamps { rts = rts } }
 
--- a hit: the word that was read with its source, what is left of the line, and the stamp and the rank of the operation
+-- a hit: the word that the line had and its source, the line after it, and the stamp and the rank of the operation
 pub record Hit : Type 0 where
   pub value : ℕ
   pub source : Source
@@ -39,7 +39,7 @@ pub record Hit : Type 0 where
   pub stamp : ℕ
   pub rank : ℕ
 
--- the line after a load at stamp t: an owner extends the lease to it
+-- the line after a load at stamp t: an owner extends the lease to t
 abbrev pub read_at : Held → ℕ → Held
 read_at (Shared l) t = Shared l
 read_at (Exclusive modified l) t = Exclusive modified (with_rts l (max l.stamps.rts t))
@@ -51,7 +51,7 @@ loaded pts r held =
     let t = load_stamp pts old.stamps.wts in
     record { value = old.value; source = old.source; held = read_at held t; stamp = t; rank = rank_of t pts r old.stamps.wts old.stamps.wr }
 
--- the same, and None where it is a miss
+-- the same, or None if it is a miss
 abbrev pub load_hit : ℕ → ℕ → Option Held → Option Hit
 load_hit pts r None = None
 load_hit pts r (Some (Shared l)) = if nat_le pts l.stamps.rts then Some (loaded pts r (Shared l)) else None
@@ -62,7 +62,7 @@ abbrev pub stored : ℕ → Source → ℕ → ℕ → Held
 stored value source t rank =
     Exclusive true (record { value = value; source = source; stamps = record { wts = t; rts = t; wr = rank } })
 
--- the hit of a store, for a core of stamp `pts` and rank `r`, and None where it is a miss
+-- the hit of a store, for a core of stamp `pts` and rank `r`, or None if it is a miss
 abbrev pub store_hit : ℕ → Source → ℕ → ℕ → Option Held → Option Hit
 store_hit value source pts r None = None
 store_hit value source pts r (Some (Shared l)) = None
@@ -75,7 +75,7 @@ store_hit value source pts r (Some (Exclusive modified l)) =
 abbrev pub swap_hit : ℕ → Source → ℕ → ℕ → Option Held → Option Hit
 swap_hit value source pts r held = store_hit value source pts r held
 
--- the `wts` of the copy that a request tells of
+-- the `wts` of a core's copy, which its request names
 abbrev pub copy_of : Option Held → Option ℕ
 copy_of None = None
 copy_of (Some held) = Some (line_of held).stamps.wts
@@ -90,17 +90,17 @@ abbrev pub left : RecallKind → Line → Option Held
 left WriteBack l = Some (Shared l)
 left Flush l = None
 
--- the line that a recall makes its owner give back, and None where the line isn't there as Exclusive
+-- the line that a recall makes its owner give back, or None if the line isn't there as Exclusive
 abbrev pub recalled : Recall → ℕ → Option Held → Option Line
 recalled recall lease None = None
 recalled recall lease (Some (Shared l)) = None
 recalled recall lease (Some (Exclusive modified l)) = Some (given recall.kind l recall.rts lease)
 
--- the copy with its lease up to `rts`, and None where it was written after that
+-- the copy with a lease that ends at `rts`, or None if it was written after that
 abbrev pub renewed : Line → ℕ → Option Line
 renewed l rts = if nat_le l.stamps.wts rts then Some (with_rts l rts) else None
 
--- the line after a reply, and None where the reply doesn't fit it
+-- the line after a reply, or None if the reply doesn't fit it
 abbrev pub filled : Option Held → Reply → Option Held
 filled None (ShRep l) = Some (Shared l)
 filled None (ExRep l) = Some (Exclusive false l)

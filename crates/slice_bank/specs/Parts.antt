@@ -1,4 +1,4 @@
--- The parts of a port without locks that contracts see.
+-- What contracts see of a port without locks.
 use Rattle.std.specs.Prelude.{List}
 use Rattle.lease_rule.specs.ConfigParts.{ConfigParts}
 use Rattle.manager_slice.specs.Parts.{SliceParts}

@@ -10,12 +10,12 @@ use Rattle.manager_slice.specs.declared.fault.SliceFault.{SliceFault}
 
 -- slice p served core c's message m with the result r, and was left as q
 pub record IsServed (p : SliceParts) (c : ℕ) (m : Message) (r : Result Reply SliceFault) (q : SliceParts) : Type 0 where
-  -- a reply, its entries and what is left are of the manager's table
+  -- the manager's table allows the reply, its entries and what is left
   pub table : IfOk r (λ reply. IsHandled p c m reply q)
-  -- which of them, and which refusal, follows from the order of service
+  -- the order of service decides which of them it is, and which refusal
   pub outcome : OutcomeLeads (handle_outcome p c m) r p q
 
--- some slice served it so, from a state to which its history leads by the configuration that it keeps
+-- some slice served it so, from a state that is the replay of its history by its own configuration
 pub record IsServedBySome (c : ℕ) (m : Message) (r : Result Reply SliceFault) : Type 0 where
   pub slice : SliceParts
   pub replays : Replays slice
@@ -26,7 +26,7 @@ pub record IsServedBySome (c : ℕ) (m : Message) (r : Result Reply SliceFault) 
 abbrev pub slice_number : ConfigParts → ℕ → ℕ
 slice_number g a = a % g.slices
 
--- of these slices number n served it so, and the others stayed
+-- slice n of these served it so, and the others stayed as they were
 pub record IsServedAt (n : ℕ) (before : List SliceParts) (c : ℕ) (m : Message) (r : Result Reply SliceFault) (after : List SliceParts) : Type 0 where
   pub slice : SliceParts
   pub there : slice_get before n ≡ Some slice

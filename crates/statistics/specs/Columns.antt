@@ -50,7 +50,7 @@ column_name Mts = codes "mts"
 column_name PrivateWrites = codes "private_writes"
 column_name Rank = codes "rank"
 
--- those of slices; the others are of cores
+-- whether a column is for slices; the others are for cores
 abbrev pub is_of_slices : Column → Bool
 is_of_slices Requests = true
 is_of_slices GiveBacks = true
@@ -65,7 +65,7 @@ abbrev pub is_performed : Sight → Bool
 is_performed (Operation kind came due) = true
 is_performed other = false
 
--- such a reply to such a message, which a core took
+-- a core took such a reply to such a message
 abbrev pub has_got : (Message → Reply → Bool) → Sight → Bool
 has_got such (Core (entry.Got m r)) = such m r
 has_got such other = false
@@ -80,7 +80,7 @@ is_incremented (Operation kind came due) = due
 is_incremented (Core entry.Bumped) = true
 is_incremented other = false
 
--- such a message, which a slice answered
+-- a slice answered such a message
 abbrev pub has_served : (Message → Bool) → Sight → Bool
 has_served such (Slice (Served c m r)) = such m
 has_served such other = false
@@ -113,7 +113,7 @@ abbrev pub is_upgrade : Message → Reply → Bool
 is_upgrade (message.ExReq a copy) (UpgradeRep rts) = true
 is_upgrade m other = false
 
--- the column counts this; a stamp or a rank counts nothing
+-- whether the column counts this; the columns of stamps and ranks count nothing
 abbrev pub counts : Column → Sight → Bool
 counts Operations s = is_performed s
 counts Loads s = is_of kind.Load s
@@ -131,8 +131,8 @@ counts SelfIncrements s = is_incremented s
 counts Requests s = has_served is_request s
 counts GiveBacks s = has_served (λ m. not (is_request m)) s
 counts Evictions s = has_evicted s
--- a store or a swap for which no line came: its line is one that the core has modified, since only the first store after EX_REP or
--- UPGRADE_REP finds it unmodified, and an operation that asks is the next one
+-- a store or a swap for which no line came: its line is one that the core has modified. Only the first store or swap after EX_REP or
+-- UPGRADE_REP finds it unmodified, and that is the operation that asked for it
 counts PrivateWrites s = is_hit s && not (is_of kind.Load s)
 counts other s = false
 
@@ -146,7 +146,7 @@ column_at place = get_or columns place Operations
 unfoldable pub by_place : (ℕ → ℕ) → List ℕ
 by_place number = map number (range_with_len 0 column_count)
 
--- how much of this each column counts
+-- how much each column counts of this
 abbrev pub counted : List Sight → List ℕ
 counted sights = by_place (λ place. count_by (counts (column_at place)) sights)
 

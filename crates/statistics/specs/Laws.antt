@@ -16,7 +16,7 @@ use Rattle.statistics.specs.Sights.{core_sights}
 use Rattle.statistics.specs.declared.column.Column.{Column}
 use Rattle.statistics.specs.declared.column.Column.TheVariants.{Operations, Loads, Stores, Swaps}
 
--- how much a column counts of a core
+-- how much a column counts for a core
 abbrev pub count_of : Column → UnitParts → ℕ
 count_of column p = count_by (counts column) (core_sights p)
 
@@ -28,17 +28,17 @@ pub record IsCounted (p : UnitParts) : Type 0 where
 abbrev pub LogsAreCounted : Type 0
 LogsAreCounted = (p : UnitParts) → Replays p → IsCounted p
 
--- such a reply to such a message of slice s, of n
+-- a core took such a reply to such a message from slice s of n
 abbrev pub is_got_from : ℕ → ℕ → (Message → Bool) → (Reply → Bool) → CoreEntry → Bool
 is_got_from n s asked answered (Got m r) = (slice_of n (addr_of m) == s) && (asked m && answered r)
 is_got_from n s asked answered other = false
 
--- such a reply to such a message of core c
+-- a slice gave such a reply to such a message from core c
 abbrev pub is_served_to : ℕ → (Message → Bool) → (Reply → Bool) → HistoryEntry → Bool
 is_served_to c asked answered (Served d m r) = (d == c) && (asked m && answered r)
 is_served_to c asked answered (Evicted a) = false
 
--- where core c and slice s tell the same of each other, as many such replies were got as served
+-- if cores and slices say the same of each other, core c took as many such replies from slice s as slice s gave it
 abbrev pub SumsAgree : Type 0
 SumsAgree =
     (ts : List (List CoreEntry)) (hs : List (List HistoryEntry)) → Agrees ts hs → (c s : ℕ) → c < 64 → s < length hs

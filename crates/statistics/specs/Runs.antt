@@ -5,11 +5,11 @@ use Rattle.manager_slice.specs.Parts.{SliceParts}
 use Rattle.statistics.specs.Columns.{core_counts, slice_counts}
 use Rattle.statistics.specs.declared.numbers.Numbers.{Numbers}
 
--- those of its cores and those of its slices
+-- the numbers of its cores and of its slices
 pub record RunNumbers : Type 0 where
   pub cores : List Numbers
   pub slices : List Numbers
 
--- those of so many cores and slices, or of all where there are fewer
+-- the numbers of this many cores and slices, or of all if there are fewer
 abbrev pub run_numbers : ℕ → ℕ → List UnitParts → List SliceParts → RunNumbers
 run_numbers cores slices us ss = record { cores = map core_counts (take cores us); slices = map slice_counts (take slices ss) }

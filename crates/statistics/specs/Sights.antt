@@ -1,5 +1,5 @@
--- What the columns look at: the entries of a core's transcript with what they need of its past, and those of a slice's history. A Busy is
--- no entry of either.
+-- What the columns look at: the entries of a core's transcript with what they need of its past, and those of a slice's history. A Busy
+-- makes no entry in either.
 use Rattle.std.specs.Prelude.{ℕ, ◌+◌, ◌%◌, Bool, true, false, ◌||◌, ◌==◌, not, if◌then◌else◌, List, [], ◌∷◌, ◌++◌, count_by, map, reverse, slice_get}
 use Rattle.std.specs.Option.{option_map_or}
 use Rattle.log_record.specs.declared.act.Act.{Act}
@@ -25,12 +25,12 @@ abbrev pub is_increment : CoreEntry → Bool
 is_increment Bumped = true
 is_increment other = false
 
--- a reply to a request: the taking of a line that was given back brings none
+-- a reply to a request; the reply to a give-back brings no line
 abbrev pub brings_line : CoreEntry → Bool
 brings_line (Got m r) = is_request m
 brings_line other = false
 
--- these entries, the last of them first, have a line that came since the last operation
+-- in these entries, the last one first, a line came since the last operation
 abbrev pub has_come : List CoreEntry → Bool
 has_come [] = false
 has_come (e ∷ before) = if is_operation e then false else (brings_line e || has_come before)
@@ -46,13 +46,13 @@ kind_of (act.Swap source word) = Swap
 abbrev pub kind_at : List Record → ℕ → Kind
 kind_at log place = option_map_or (λ r. kind_of r.act) (slice_get log place) Load
 
--- an entry with the entries before it, the last of which comes first
+-- what is seen of an entry; the entries before it come with the last one first
 abbrev pub seen : ℕ → List Record → CoreEntry → List CoreEntry → Sight
 seen period log Performed before =
     let done = count_by is_operation before in sight.Operation (kind_at log done) (has_come before) ((done + 1) % period == 0)
 seen period log e before = sight.Core e
 
--- each of these entries, of which the last comes first, in the order in which they were made
+-- what is seen of these entries, which come with the last one first, in the order in which they were made
 abbrev pub seen_back : ℕ → List Record → List CoreEntry → List Sight
 seen_back period log [] = []
 seen_back period log (e ∷ before) = seen_back period log before ++ seen period log e before ∷ []
@@ -75,7 +75,7 @@ abbrev pub is_of : Kind → Sight → Bool
 is_of kind (sight.Operation own came due) = same_kind kind own
 is_of kind other = false
 
--- no line came for it since the operation before
+-- no line came for it since the operation before it
 abbrev pub is_hit : Sight → Bool
 is_hit (sight.Operation kind came due) = not came
 is_hit other = false

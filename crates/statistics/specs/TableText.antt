@@ -1,4 +1,4 @@
--- The text of the table: comma-separated values, a line for the columns, one for each core, one for all cores, and one for each slice. Of
+-- The text of the table: comma-separated values, a line for the columns, one for each core, one for all cores, and one for each slice. For
 -- runs: a line for the columns and one for all runs.
 use Rattle.std.specs.Prelude.{ℕ, ◌+◌, Bool, true, not, if◌then◌else◌, List, [], ◌∷◌, ◌++◌, map, codes}
 use Rattle.std.specs.List.{range_with_len}
@@ -21,7 +21,7 @@ whose_name whose.Cores = codes "total"
 whose_name (whose.Slice number) = codes "slice " ++ numeral number
 whose_name whose.Runs = codes "total"
 
--- a line of cores has nothing in the columns of slices, nor one of a slice in those of cores
+-- a line for cores has nothing in the columns for slices, and a line for a slice has nothing in those for cores
 abbrev pub has_column : Whose → Column → Bool
 has_column (whose.Core number) column = not (is_of_slices column)
 has_column whose.Cores column = not (is_of_slices column)

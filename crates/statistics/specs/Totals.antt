@@ -8,7 +8,7 @@ use Rattle.statistics.specs.declared.column.Column.TheVariants.{Mts, Pts, Rank}
 use Rattle.statistics.specs.declared.numbers.Numbers.{Numbers}
 use Rattle.statistics.specs.declared.run_totals.RunTotals.{RunTotals}
 
--- over nothing
+-- the totals over nothing
 abbrev pub none : RunTotals
 none = record { counts = by_place (λ place. 0); pts = 0; rank = 0; mts = 0 }
 
@@ -16,7 +16,7 @@ none = record { counts = by_place (λ place. 0); pts = 0; rank = 0; mts = 0 }
 abbrev pub sums : List ℕ → List ℕ → List ℕ
 sums ns ms = by_place (λ place. get_or ns place 0 + get_or ms place 0)
 
--- over one core or slice more: counts are added up, and of stamps and ranks the greatest counts
+-- the totals with one more core or slice: counts add up, and the greatest stamps and ranks stay
 abbrev pub with_part : RunTotals → Numbers → RunTotals
 with_part totals part = record {
   counts = sums totals.counts part.counts;
@@ -28,19 +28,19 @@ with_part totals part = record {
 abbrev pub with_parts : RunTotals → List Numbers → RunTotals
 with_parts totals parts = fold with_part totals parts
 
--- over one run more
+-- the totals with one more run
 abbrev pub with_run : RunTotals → RunNumbers → RunTotals
 with_run totals run = with_parts (with_parts totals run.cores) run.slices
 
--- over all these runs
+-- the totals over all these runs
 abbrev pub totals_of : List RunNumbers → RunTotals
 totals_of runs = fold with_run none runs
 
--- each sum is at most that of so many cores and slices, with at most 2 ^ 32 each
+-- each sum is at most that of this many cores and slices, with at most 2 ^ 32 each
 pub record IsBoundedBy (parts : ℕ) (totals : RunTotals) : Type 0 where
   pub each : (place : ℕ) → get_or totals.counts place 0 ≤ parts * 2 ^ 32
 
--- or of so many runs, of at most 64 cores and 64 slices
+-- or that of this many runs, each of at most 64 cores and 64 slices
 abbrev pub IsBounded : ℕ → RunTotals → Type 0
 IsBounded runs totals = IsBoundedBy (runs * 128) totals
 

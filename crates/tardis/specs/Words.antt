@@ -1,4 +1,4 @@
--- What is told of words that can't be read, and the exit status.
+-- What the program says if it can't read its words, and its exit status.
 use Rattle.std.specs.Prelude.{ℕ, List, ◌++◌, codes}
 use Rattle.mem_op.specs.Names.{name_text}
 use Rattle.mem_op.specs.declared.fault_name.FaultName.TheVariants as named

@@ -1,4 +1,4 @@
--- What each core of the machine has in hand and has performed, as those see it who make its events.
+-- What each core of the machine has in hand and has performed, as seen by those who make its events.
 use Rattle.std.specs.Prelude.{◌≡◌, ℕ, ◌<◌, Bool, true, false, [], ◌∷◌, ◌++◌, Option, Some, None, slice_get}
 use Rattle.std.specs.Option.{option_map_or}
 use Rattle.line_stamps.specs.declared.message.Message.{Message}
@@ -21,7 +21,7 @@ hand_at w c = option_map_or (λ u. hand_of u.hand u.kept) (slice_get w.cores c) 
 
 -- ---- its operations
 
--- from w to t core c performed one operation; then it has no message in hand
+-- from w to t core c performed one operation, and then it has no message in hand
 pub record HasPerformed (c : ℕ) (w t : World) : Type 0 where
   pub had_next : has_next w c ≡ true
   pub made : Record

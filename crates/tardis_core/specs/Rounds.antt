@@ -1,4 +1,4 @@
--- Rounds of a core: the events that one makes, in their order, and rounds until an operation is performed, or all are.
+-- Rounds of a core: the events of a round, in their order, and rounds until the core has performed an operation, or all of them.
 use Rattle.std.specs.Prelude.{◌≡◌, ℕ, ◌+◌, ◌<◌, ◌≤◌, true, false, List, [], ◌∷◌, ◌++◌, Option, Some, None, Ok}
 use Rattle.line_stamps.specs.declared.message.Recall.{Recall}
 use Rattle.core_unit.specs.declared.outcome.Outcome.{Outcome}
@@ -34,7 +34,7 @@ told_by (Busy x) = told.Busy x
 told_by (Gave m) = told.Gave
 told_by o = told.Other
 
--- the event leads from p to q, and this is told of its outcome
+-- the event leads from p to q, and this is what a round sees of its outcome
 pub record EventLeadsTelling (p : CoreParts) (e : Event) (told : Told) (q : CoreParts) : Type 0 where
   pub outcome : Outcome
   pub makes : EventLeads p e outcome q
@@ -57,14 +57,14 @@ pub data Stage : Type 0 where
   ToTurn : Stage
   ToServe : Stage
   ToTake : Stage
-  -- this recall was answered instead of the request
+  -- the request was answered Busy, with this recall
   ToRecall : Recall → Stage
   -- the owner has given its line back
   OwnerToServe : ℕ → Stage
   OwnerToTake : ℕ → Stage
   Over : Stage
 
--- a turn where no message is in hand, serve where one without its reply is, and take where one with its reply is
+-- a turn if no message is in hand, a serve if there is one without its reply, and a take if there is one with its reply
 abbrev pub turn_due : ℕ → Hand → Option Event
 turn_due c hand.Empty = Some (event.Turn c)
 turn_due c _ = None
@@ -87,12 +87,12 @@ due c w (OwnerToServe owner) = Some (event.Serve owner)
 due c w (OwnerToTake owner) = Some (event.Take owner)
 due c w Over = None
 
--- a Busy is recalled at its owner
+-- after a Busy the line is recalled from its owner; otherwise the round is over
 abbrev pub stage_of : Told → Stage
 stage_of (told.Busy x) = ToRecall x
 stage_of _ = Over
 
--- who serves and takes what it gives back
+-- what the owner gives back is served, and it takes the reply; if it gives nothing, the round is over
 abbrev pub stage_of_recall : ℕ → Told → Stage
 stage_of_recall owner told.Gave = OwnerToServe owner
 stage_of_recall owner _ = Over
@@ -127,12 +127,12 @@ pub record IsPart (c : ℕ) (from : Stage) (p q : CoreParts) (to : Stage) : Type
   pub events : List Event
   pub part : Part c from p events q to
 
--- the cause is that of an event that comes to this
+-- an event with this outcome may be refused for this cause
 abbrev pub IsCauseOf : StepOutcome → RoundCause → Type 0
 IsCauseOf outcome cause.GaveUp = ⊥
 IsCauseOf outcome (cause.Core fault) = MayRefuse outcome fault
 
--- a round that stood in p at the stage `from` came to q, where the event that is due is refused; the core is the event's
+-- a round that stood in p at the stage `from` came to q, and there the event that is due is refused; the fault names the event's core
 pub record IsStopped (c : ℕ) (from : Stage) (p q : CoreParts) (fault : RoundFault) : Type 0 where
   pub stage : Stage
   pub so_far : IsPart c from p q stage
@@ -161,7 +161,7 @@ pub data Rounds (c : ℕ) (p : CoreParts) : ℕ → CoreParts → Type 0 where
   no_round : Rounds c p 0 p
   one_more : (n : ℕ) (q t : CoreParts) → Rounds c p n q → StillWaits c p q → IsRound c q t → Rounds c p (n + 1) t
 
--- core c performs its next operation by at most 1,000 rounds
+-- core c performs its next operation in at most 1,000 rounds
 pub record IsOp (c : ℕ) (p q : CoreParts) : Type 0 where
   pub count : ℕ
   pub limit : count ≤ 1000
@@ -174,7 +174,7 @@ pub data IsOpFault (c : ℕ) (p q : CoreParts) (fault : RoundFault) : Type 0 whe
   stopped : (count : ℕ) (between : CoreParts) → count < 1000 → Rounds c p count between → StillWaits c p between →
       IsRefusedRound c between q fault → IsOpFault c p q fault
 
--- core c performs its next operation; where none is left, nothing is done
+-- core c performs its next operation; if none is left, nothing is done
 pub data IsOpIfLeft (c : ℕ) (p q : CoreParts) : Type 0 where
   performs : IsOp c p q → IsOpIfLeft c p q
   none_left : has_next (world p) c ≡ false → q ≡ p → IsOpIfLeft c p q

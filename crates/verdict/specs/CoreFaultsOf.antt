@@ -10,11 +10,11 @@ use Rattle.core_check.specs.declared.fault.RuleFault.{RuleFault}
 use Rattle.core_check.specs.FaultOrder.{core_fault_cmp}
 use Rattle.core_check.specs.CoreFaults.{order_faults, program_faults}
 
--- the programs that a reference leads to, where it is given
+-- the programs that a reference leads to, if one is given
 abbrev pub given : Option (Bor SetParts) → Option (List (List Instruction))
 given = option_map (λ set. set.now.programs)
 
--- the faults against the programs of a set's cores, where they are given
+-- the faults against the programs of a set's cores, if they are given
 abbrev pub faults_by_programs : Option (List (List Instruction)) → List (List Record) → List RuleFault
 faults_by_programs None logs = []
 faults_by_programs (Some programs) logs = program_faults programs logs
@@ -23,13 +23,13 @@ faults_by_programs (Some programs) logs = program_faults programs logs
 abbrev pub core_faults : Option (List (List Instruction)) → List (List Record) → List RuleFault
 core_faults programs logs = order_faults logs ++ faults_by_programs programs logs
 
--- those of the faults that are a core's
+-- the faults of one core
 abbrev pub faults_of_core : List RuleFault → ℕ → List RuleFault
 faults_of_core faults core = filter (λ f. f.id.core == core) faults
 
 abbrev pub least_of_core : List RuleFault → ℕ → Option RuleFault
 least_of_core faults core = least_of core_fault_cmp (faults_of_core faults core)
 
--- the least of the faults that are of these cores
+-- the least of these cores' faults
 abbrev pub least_of_cores : List RuleFault → List ℕ → Option RuleFault
 least_of_cores faults cores = least_of core_fault_cmp (flat_map (faults_of_core faults) cores)

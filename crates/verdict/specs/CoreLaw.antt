@@ -1,4 +1,4 @@
--- The law of the check of cores, which an `impl` cites.
+-- The law of the core check, which an `impl` cites.
 use Rattle.std.specs.Prelude.{◌≡◌, ℕ, List, ◌++◌}
 use Rattle.std.proofs.Common.{subst, ◌∙◌, ap}
 use Rattle.std.proofs.lemmas.List.Concat.{flat_map-append}
@@ -12,7 +12,7 @@ use Rattle.core_check.specs.FaultOrder.{core_fault_cmp}
 use Rattle.core_check.proofs.FaultFacts.{core_fault_total, derived_cmp}
 use Rattle.verdict.specs.CoreFaultsOf.{faults_of_core, least_of_cores}
 
--- the least fault of two lists of cores joined is the lesser of theirs
+-- the least fault of two joined lists of cores is the lesser of their least faults
 pub least_of_cores-joined : (faults : List RuleFault) (xs ys : List ℕ) → least_of_cores faults (xs ++ ys) ≡ lesser ghosts.cmp (least_of_cores faults xs) (least_of_cores faults ys)
 least_of_cores-joined faults xs ys =
     subst (λ (R : RuleFault → RuleFault → Ordering). least_of_cores faults (xs ++ ys) ≡ lesser R (least_of_cores faults xs) (least_of_cores faults ys)) derived_cmp

@@ -1,4 +1,4 @@
--- The range of the numbers of files and of workers, and the number of programs.
+-- The range of the numbers of files and workers, and the number of programs.
 use Rattle.std.specs.Prelude.{◌≡◌, ◌≢◌, ℕ, ◌≤◌, ◌<◌, ◌⊎◌, List, length, Option, None, Some, All}
 use Rattle.core_program.specs.Shape.{IsProgram}
 use Rattle.core_program.specs.declared.instruction.Instruction.{Instruction}
@@ -11,19 +11,19 @@ IsInRange n = (1 ≤ n) × (n ≤ 64)
 abbrev pub IsOutOfRange : ℕ → Type 0
 IsOutOfRange n = (n < 1) ⊎ (64 < n)
 
--- the fault is that of a count
+-- the fault is a bad count
 abbrev pub IsBadCount : JudgeFault → Type 0
 IsBadCount (BadConfig count) = Unit {0}
 IsBadCount (Log file line fault) = ⊥
 IsBadCount OutOfMemory = ⊥
 IsBadCount (Read file) = ⊥
 
--- where programs are given, each is one, and there are as many as this
+-- if programs are given, each of them is a program, and there are n of them
 abbrev pub AreAsMany : ℕ → Option (List (List Instruction)) → Type 0
 AreAsMany n None = Unit {0}
 AreAsMany n (Some programs) = All IsProgram programs × (length programs ≡ n)
 
--- programs are given, and there aren't as many as this
+-- programs are given, but not n of them
 abbrev pub AreNotAsMany : ℕ → Option (List (List Instruction)) → Type 0
 AreNotAsMany n None = ⊥
 AreNotAsMany n (Some programs) = length programs ≢ n

@@ -38,7 +38,7 @@ IsWhole programs flat =
 abbrev pub performed_by : ℕ → List (ℕ × Operation) → List Operation
 performed_by core done = filter_map (λ p. if p.0 == core then Some p.1 else None) done
 
--- a whole run of the programs performs just these operations of each core, each load with its value
+-- a whole run of the programs performs just these operations of each core, each load and each swap with the word that it read
 pub record PerformsAll (programs : List (List Instruction)) (cores : List (List Operation)) (run : List ℕ) : Type 0 where
   pub done : List (ℕ × Operation)
   pub flat : Flat

@@ -18,8 +18,8 @@ IsVerdictBy judged texts verdict =
     (logs : List (List Record)) × SpellSet texts logs × (verdict ≡ judged logs)
 
 -- The verdict on the set that the texts spell, or their first fault. A bad count, lack of memory or a
--- failed read may come instead of either; a read fails at a file only where the texts before it
--- spell their logs.
+-- failed read may come instead of either; but a failed read of a file comes only if the texts before
+-- it spell their logs.
 abbrev pub IsAnswerBy : (List (List Record) → Verdict) → List (List ℕ) → Result Verdict JudgeFault → Type 0
 IsAnswerBy judged texts (Ok verdict) = IsVerdictBy judged texts verdict
 IsAnswerBy judged texts (Err (Log file line fault)) = IsFirstOfSet texts file line fault
@@ -35,7 +35,7 @@ IsAnswerTo = IsAnswerBy verdict_of
 abbrev pub IsRunAnswerTo : List (List Instruction) → List (List ℕ) → Result Verdict JudgeFault → Type 0
 IsRunAnswerTo programs = IsAnswerBy (run_verdict_of programs)
 
--- the one or the other
+-- the answer against programs if they are given, else without them
 abbrev pub IsAnswerAgainst : Option (List (List Instruction)) → List (List ℕ) → Result Verdict JudgeFault → Type 0
 IsAnswerAgainst None = IsAnswerTo
 IsAnswerAgainst (Some programs) = IsRunAnswerTo programs
@@ -45,14 +45,14 @@ IsAnswerAgainst (Some programs) = IsRunAnswerTo programs
 abbrev pub StopsAt : {S : Type 0} → List (List ℕ) → List S → List S → ℕ → Type 0
 StopsAt texts old new file = SpellBefore texts file × (drop (file + 1) new ≡ drop (file + 1) old)
 
--- how far the readers were read before this fault: after a bad count they weren't, and lack of memory names no file
+-- how far the readers were read before this fault: before a bad count not at all; and lack of memory names no file
 abbrev pub IsReadUpTo : {S : Type 0} → List (List ℕ) → List S → List S → JudgeFault → Type 0
 IsReadUpTo texts old new (Log file line fault) = StopsAt texts old new file
 IsReadUpTo texts old new (Read file) = StopsAt texts old new file
 IsReadUpTo texts old new OutOfMemory = (file : ℕ) × StopsAt texts old new file
 IsReadUpTo texts old new (BadConfig count) = new ≡ old
 
--- Where a failed read is answered, the reader of that file failed in this call; else none of the readers did.
+-- If the answer is a failed read, the reader of that file failed in this call; else none of the readers did.
 abbrev pub TellsFailures : {S T : Type 0} → (S → ℕ) → List S → List S → Result T JudgeFault → Type 0
 TellsFailures failed old new (Err (Read file)) = ReaderFailed failed old new file
 TellsFailures failed old new (Err (Log file line fault)) = NoneFailed failed old new
@@ -60,7 +60,7 @@ TellsFailures failed old new (Err (BadConfig count)) = NoneFailed failed old new
 TellsFailures failed old new (Err OutOfMemory) = NoneFailed failed old new
 TellsFailures failed old new (Ok x) = NoneFailed failed old new
 
--- the answer is the texts' alone: a verdict, or the fault of a log
+-- the answer depends on the texts alone: it is a verdict, or the fault of a log
 abbrev pub IsOfTexts : Result Verdict JudgeFault → Type 0
 IsOfTexts (Ok verdict) = Unit {0}
 IsOfTexts (Err (Log file line fault)) = Unit {0}
@@ -72,7 +72,7 @@ abbrev pub IsYes : Verdict → Type 0
 IsYes (Yes count) = Unit {0}
 IsYes (No fault) = ⊥
 
--- this holds where the answer is Yes
+-- this holds if the answer is Yes
 abbrev pub OnYes : Result Verdict JudgeFault → Type 0 → Type 0
 OnYes answer Holds = IfOk answer (λ verdict. IsYes verdict → Holds)
 
@@ -86,7 +86,7 @@ abbrev pub SpellFlatRun : List (List Instruction) → List (List ℕ) → Type 0
 SpellFlatRun programs texts =
     (logs : List (List Record)) × SpellSet texts logs × RunsFlat programs (operations_of logs)
 
--- the same of the programs that are given
+-- the same for the programs, if they are given
 abbrev pub SpellFlatRunBy : Option (List (List Instruction)) → List (List ℕ) → Type 0
 SpellFlatRunBy None texts = Unit {0}
 SpellFlatRunBy (Some programs) texts = SpellFlatRun programs texts

@@ -11,7 +11,7 @@ use Rattle.verdict.specs.ByKey.{ids_by_key}
 use Rattle.verdict.specs.Judgement.{IsAnswerBy, IsOfTexts}
 use Rattle.verdict.specs.VerdictOf.{verdict_of, run_verdict_of}
 
--- the ids of a set that gets Yes, by key, are a sequential order of its operations
+-- if a set gets Yes, its ids by key are a sequential order of its operations
 abbrev pub KeyOrderIsSequential : Type 0
 KeyOrderIsSequential =
     (logs : List (List Record)) (count : ℕ) → verdict_of logs ≡ Yes count →
@@ -28,7 +28,7 @@ RunYesIsConsistent =
     (programs : List (List Instruction)) (logs : List (List Record)) (count : ℕ) →
     run_verdict_of programs logs ≡ Yes count → IsConsistent (operations_of logs)
 
--- texts have one answer, by whatever sets are judged: against programs or not
+-- texts have one answer, however sets are judged: against programs or not
 abbrev pub TextsHaveOneAnswer : Type 0
 TextsHaveOneAnswer =
     (judged : List (List Record) → Verdict) (texts : List (List ℕ)) (a b : Result Verdict JudgeFault) →

@@ -34,7 +34,7 @@ count_text Files = codes "files"
 count_text Workers = codes "workers"
 count_text Programs = codes "programs"
 
--- a number and a name, after the file and the line where there are any
+-- a number and a name, after the file and the line if there are any; a bad count is named too
 abbrev pub judge_fault_text : JudgeFault → List ℕ
 judge_fault_text (BadConfig count) = name_text named.BadConfig ++ codes " " ++ count_text count
 judge_fault_text (Log file line fault) =

@@ -38,6 +38,6 @@ least_run_fault programs logs = least_of core_fault_cmp (order_faults logs ++ pr
 abbrev pub run_verdict_of : List (List Instruction) → List (List Record) → Verdict
 run_verdict_of programs logs = verdict_with (least_run_fault programs logs) logs
 
--- the one or the other
+-- the verdict against programs if they are given, else without them
 abbrev pub verdict_by : Option (List (List Instruction)) → List (List Record) → Verdict
 verdict_by programs logs = verdict_with (least_of core_fault_cmp (core_faults programs logs)) logs

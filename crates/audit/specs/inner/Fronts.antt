@@ -28,16 +28,16 @@ pub record FrontsFit (ts : List (List CoreEntry)) (hs : List (List HistoryEntry)
   pub cores : (c : ℕ) → slice_index p c ≤ length (transcript_of ts c)
   pub slices : (s : ℕ) → slice_index q s ≤ length (history_of hs s)
 
--- each list has a length that a machine's word holds
+-- the length of each list fits in 64 bits
 pub record Small (ts : List (List CoreEntry)) (hs : List (List HistoryEntry)) : Type 0 where
   pub cores : (c : ℕ) → length (transcript_of ts c) < 2 ^ 64
   pub slices : (s : ℕ) → length (history_of hs s) < 2 ^ 64
 
--- an entry of the core's own stands at this place
+-- whether an entry that the core makes by itself stands at this place
 abbrev pub goes_alone : List CoreEntry → ℕ → Bool
 goes_alone t k = option_map_or is_own (slice_get t k) false
 
--- the slice, of n, whose reply is taken in an entry
+-- which of n slices gave the reply that an entry takes, if it takes one
 abbrev pub slice_waited : ℕ → CoreEntry → Option ℕ
 slice_waited n Performed = None
 slice_waited n (Dropped a) = None
@@ -45,7 +45,7 @@ slice_waited n (Gave m) = None
 slice_waited n (Got m r) = Some (slice_of n (addr_of m))
 slice_waited n Bumped = None
 
--- the slice whose reply is taken at this place, if one is
+-- the same for an entry that may not be there
 abbrev pub waits_for : ℕ → Option CoreEntry → Option ℕ
 waits_for n None = None
 waits_for n (Some e) = slice_waited n e
@@ -66,13 +66,13 @@ pub record Stuck (ts : List (List CoreEntry)) (hs : List (List HistoryEntry)) (p
   pub cores : (c : ℕ) → goes_alone (transcript_of ts c) (slice_index p c) ≡ false
   pub slices : (s : ℕ) → SliceStuck ts hs p q s
 
--- only the place of list c went on
+-- only list c moved on
 pub record IsOneOn (c : ℕ) (p q : List ℕ) : Type 0 where
   pub count : length q ≡ length p
   pub more : sum p ≤ sum q
   pub others : (d : ℕ) → d ≢ c → slice_index q d ≡ slice_index p d
 
--- fronts that there is an order of, where only the slices that are due for a look may go on
+-- fronts that have an order; nothing but the slices that are due for a look can go on
 pub record Merging (ts : List (List CoreEntry)) (hs : List (List HistoryEntry)) (p q due_slices : List ℕ) : Type 0 where
   pub reached : Reached ts hs p q
   pub fit : FrontsFit ts hs p q

@@ -1,4 +1,4 @@
--- The steps of a slice that fronts can take.
+-- The steps that a slice can take from fronts.
 use Rattle.std.specs.Prelude.{ℕ, ◌≡◌, ◌<◌, List, Some, length, slice_get, slice_index}
 use Rattle.line_stamps.specs.Messages.{addr_of}
 use Rattle.line_stamps.specs.declared.message.Message.{Message}

@@ -12,14 +12,14 @@ use Rattle.text_lines.specs.Fields.{below, front_below, field_below, last_below,
 unfoldable pub register_at : List ℕ → Option (ℕ × List ℕ)
 register_at bytes = after (codes "r") bytes >>= field_below 16
 
--- a register or the length of a jump that is all there is
+-- a register, or the length of a jump, with nothing after it
 unfoldable pub last_register : List ℕ → Option ℕ
 last_register bytes = after (codes "r") bytes >>= last_below 16
 
 unfoldable pub last_skip : List ℕ → Option ℕ
 last_skip bytes = last_number bytes >>= λ n. if n == 0 then None else below 4096 n
 
--- the instruction whose fields these are, after its name
+-- the instruction whose fields these are; its name comes before them
 unfoldable pub load_of : List ℕ → Option Instruction
 load_of bytes = register_at bytes >>= λ to. last_below 65536 to.1 >>= λ addr. Some (Load to.0 addr)
 
@@ -38,7 +38,7 @@ skip_of bytes = register_at bytes >>= λ tested. last_skip tested.1 >>= λ skip.
 unfoldable pub swap_of : List ℕ → Option Instruction
 swap_of bytes = register_at bytes >>= λ to. field_below 65536 to.1 >>= λ addr. last_below (2 ^ 64) addr.1 >>= λ value. Some (Swap to.0 addr.0 value)
 
--- the swap whose line this is in a format that has swaps
+-- the swap whose line this is, if the format has swaps
 abbrev pub swap_in : ProgramFormat → List ℕ → Option Instruction
 swap_in One line = None
 swap_in Two line = named (codes "sw ") swap_of line None
@@ -52,13 +52,13 @@ instruction_of format line =
     (named (codes "ai ") add_of line
     (named (codes "jz ") skip_of line (swap_in format line)))))
 
--- the format that the first words of a header say, and the bytes after them
+-- the format that a header's first words name, and the bytes after them
 unfoldable pub first_words : List ℕ → Option (ProgramFormat × List ℕ)
 first_words text =
     if is_some (after (codes "tardis-programs 1 cores ") text) then (after (codes "tardis-programs 1 cores ") text >>= λ rest. Some (One, rest))
     else (after (codes "tardis-programs 2 cores ") text >>= λ rest. Some (Two, rest))
 
--- the number of cores after them, 1..64, that ends the line, and the bytes after it
+-- the number of cores that comes after them and ends the line, 1..64, and the bytes after that line
 unfoldable pub cores_at : List ℕ → Option (ℕ × List ℕ)
 cores_at bytes = field_at 10 bytes >>= λ n. if n.0 == 0 then None else front_below 65 n
 

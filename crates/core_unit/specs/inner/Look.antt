@@ -1,4 +1,4 @@
--- What a core's line makes of an operation.
+-- What comes of an operation at its core's line.
 use Rattle.std.specs.Prelude.{◌≡◌, Option, Some, None, Result, MatchResult}
 use Rattle.mem_op.specs.declared.id.Op.{Op}
 use Rattle.line_stamps.specs.declared.fault.StampFault.{StampFault}
@@ -14,7 +14,7 @@ abbrev pub look_of : Core → Op → Option Hit → Look
 look_of u x None = look.Miss (next_request u x)
 look_of u x (Some hit) = look.Hit (record_of x hit)
 
--- this is what the line makes of the operation, or why its hit is refused
+-- this is what comes of the operation, or why its hit is refused
 abbrev pub IsLook : UnitParts → Op → Result Look StampFault → Type 0
 IsLook p x result =
     let u = core_of p None in

@@ -1,4 +1,4 @@
--- An operation in parts of fixed sizes, and the operation that it is.
+-- Operations as parts of fixed sizes.
 use Rattle.std.specs.Prelude.{◌≡◌, ℕ, refl}
 use Rattle.mem_op.specs.Consistency.{Operation, Loaded, Stored, Swapped, word_answered, word_left}
 use Rattle.flat_replay.specs.Accesses.{address_of}
@@ -15,7 +15,7 @@ kind_of (Loaded a v) = Load
 kind_of (Stored a v) = Store
 kind_of (Swapped a r v) = Swap
 
--- a load has the word that it read twice, and a store the one that it stored
+-- a load has the word that it read in both parts, and a store the word that it stored
 pub record IsFlat (kind : Kind) (addr read stored : ℕ) : Type 0 where
   pub same_read : word_answered (access_by kind addr read stored) ≡ read
   pub same_stored : word_left (access_by kind addr read stored) ≡ stored

@@ -1,4 +1,4 @@
--- An act in parts of fixed sizes, and the act that it is.
+-- Acts as parts of fixed sizes.
 use Rattle.std.specs.Prelude.{◌≡◌, ℕ, refl}
 use Rattle.mem_op.specs.declared.id.Source.{Source}
 use Rattle.mem_op.specs.declared.id.Source.TheVariants.{Init, Store as From}
@@ -7,7 +7,7 @@ use Rattle.log_record.specs.declared.act.Act.TheVariants.{Load, Store, Swap}
 use Rattle.log_record.specs.declared.act.Kind.{Kind}
 use Rattle.log_record.specs.declared.act.Kind.TheVariants.{LoadInit, LoadOf, Store as StoreKind, SwapInit, SwapOf}
 
--- the act of a kind, of the index of the store that it names, and of the word that a swap read
+-- the act with this kind, this index of the store that it names, and this word that a swap read
 abbrev pub act_by : Kind → ℕ → ℕ → Act
 act_by LoadInit index read = Load Init
 act_by (LoadOf core) index read = Load (From (record { core = core; index = index }))
@@ -22,13 +22,13 @@ kind_of Store = StoreKind
 kind_of (Swap Init read) = SwapInit
 kind_of (Swap (From id) read) = SwapOf id.core
 
--- the word that a swap read, else 0
+-- the word that a swap read; 0 for another act
 abbrev pub read_in : Act → ℕ
 read_in (Load source) = 0
 read_in Store = 0
 read_in (Swap source read) = read
 
--- the index of the store that a source names, else 0
+-- the index of the store that a source names, or 0 if it names none
 abbrev pub index_of : Source → ℕ
 index_of Init = 0
 index_of (From id) = id.index

@@ -1,4 +1,4 @@
--- What the code keeps of a line before it looks at ranges: each number where 64 bits hold it.
+-- What the code keeps of a line before it looks at ranges: each number, if it fits in 64 bits.
 use Rattle.std.specs.Prelude.{ℕ}
 use Rattle.mem_op.specs.declared.id.Source.{Source}
 use Rattle.mem_op.specs.declared.id.Source.TheVariants as source

@@ -33,7 +33,7 @@ unfoldable pub fields_at : List ℕ → Option (Fields × List ℕ)
 fields_at bytes =
     field_at 32 bytes >>= λ addr. field_at 32 addr.1 >>= λ value. field_at 32 value.1 >>= λ ts. Some (record { addr = addr.0; value = value.0; ts = ts.0 }, ts.1)
 
--- the letter that a record's line begins with, and the bytes after its space
+-- the letter that the line of a load or a swap begins with, and the bytes after the space that follows it
 unfoldable pub reading_letter_at : List ℕ → Option (Letter × List ℕ)
 reading_letter_at bytes =
     if is_some (after (codes "L ") bytes) then (after (codes "L ") bytes >>= λ rest. Some (letter.Load, rest)) else (after (codes "X ") bytes >>= λ rest. Some (letter.Swap, rest))
@@ -42,7 +42,7 @@ unfoldable pub letter_at : List ℕ → Option (Letter × List ℕ)
 letter_at bytes =
     if is_some (after (codes "S ") bytes) then (after (codes "S ") bytes >>= λ rest. Some (letter.Store, rest)) else reading_letter_at bytes
 
--- the act, of which a store has nothing after its rank
+-- the act, from the bytes after the rank; a store has nothing there
 unfoldable pub act_at : Letter → List ℕ → Option (Act × List ℕ)
 act_at letter.Store bytes = Some (act.Store, bytes)
 act_at letter.Load bytes = after (codes " ") bytes >>= λ rest. source_at rest >>= λ s. Some (act.Load s.0, s.1)
@@ -56,17 +56,17 @@ unfoldable pub lettered_at : List ℕ → Option (Record × List ℕ)
 lettered_at bytes =
     letter_at bytes >>= λ l. fields_at l.1 >>= λ f. number_at f.1 >>= λ rank. act_at l.0 rank.1 >>= λ a. Some (made a.0 f.0 rank.0, a.1)
 
--- the record whose line this is, its numbers of any size
+-- the record whose line this is, whatever the size of its numbers
 unfoldable pub record_of : List ℕ → Option Record
 record_of line = whole (lettered_at line)
 
--- ---- the lines round the records
+-- ---- the lines around the records
 
 -- the two numbers of a header, after its first words
 unfoldable pub header_numbers : List ℕ → Option (ℕ × ℕ)
 header_numbers bytes = number_at bytes >>= λ core. after (codes " of ") core.1 >>= λ rest. last_number rest >>= λ cores. Some (core.0, cores)
 
--- the format that the first words of a header say, and the bytes after them
+-- the format that a header's first words name, and the bytes after them
 unfoldable pub first_words : List ℕ → Option (Format × List ℕ)
 first_words line =
     if is_some (after (codes "tardis-log 1 core ") line) then (after (codes "tardis-log 1 core ") line >>= λ rest. Some (One, rest)) else (after (codes "tardis-log 2 core ") line >>= λ rest. Some (Two, rest))

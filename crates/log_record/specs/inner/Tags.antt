@@ -5,7 +5,7 @@ use Rattle.std.proofs.lemmas.Bool.{cases_lt, lt-ltb, le-ltb}
 use Rattle.log_record.specs.declared.act.Kind.{Kind}
 use Rattle.log_record.specs.declared.act.Kind.TheVariants.{LoadInit, LoadOf, Store, SwapInit, SwapOf}
 
--- the kinds that name no store, from 128 on
+-- the kinds that name no store, whose codes begin at 128
 abbrev pub unnamed_by : ℕ → Kind
 unnamed_by zero = LoadInit
 unnamed_by (suc zero) = Store

@@ -1,4 +1,4 @@
--- How a core takes the reply to its message, and what it has left where it gave its lines back.
+-- How a core takes the reply to its message, and what it has left after it gave its lines back.
 use Rattle.std.specs.Prelude.{◌≡◌, None, Ok}
 use Rattle.line_stamps.specs.declared.message.Reply.{Reply}
 use Rattle.private_cache.specs.Steps.{IsLeastExclusive}

@@ -1,4 +1,4 @@
--- The faults of logs that have ended.
+-- The faults of logs that have ended, and the verdict on them.
 use Rattle.std.specs.Prelude.{◌≡◌, ℕ, ◌<◌, ◌⊎◌, true, length, ◌++◌, List, Option, None, Some, Result, Ok, Err, IfErr, slice_get}
 use Rattle.log_record.specs.declared.record.Record.{Record}
 use Rattle.log_record.specs.Entries.{entries}
@@ -38,21 +38,21 @@ abbrev pub IsFirstFall : List LaneParts → (ℕ × ℕ) → Type 0
 IsFirstFall lanes at =
     ((lane : LaneParts) × (slice_get lanes at.0 ≡ Some lane) × (lane.falls ≡ Some at.1)) × NoneFalls lanes at.0
 
--- the record at this fault falls, or no log does and the fault is the least of the addresses
+-- it is a core-order fault at a record that falls; or no log falls, and it is the least address fault
 abbrev pub IsFaultIn : List LaneParts → List (List Record) → FaultParts → Type 0
 IsFaultIn lanes merged fault =
     ((fault.rule ≡ CoreOrder) × (is_core_fault (log_at merged fault.id.core) fault.id.index ≡ true))
     ⊎ (NoFalls lanes × ((f : AddressFault) × (least_address_fault (entries merged) ≡ Some f) × (fault ≡ from_address f)))
 
--- Yes comes where no log has a fault or falls, and is the verdict on the set of these records
+-- a verdict is on these records, which the texts spell; with a Yes no log has a fault or falls, and a No's fault is one of theirs
 abbrev pub IsClean : List LaneParts → List (List Record) → List (List ℕ) → Result Verdict JudgeFault → Type 0
 IsClean lanes merged texts (Ok (Yes count)) =
     SpellSet texts merged × (Yes count ≡ verdict_of merged) × ((k : ℕ) (lane : LaneParts) → slice_get lanes k ≡ Some lane → (lane.falls ≡ None) × (lane.fault ≡ None))
 IsClean lanes merged texts (Ok (No fault)) = SpellSet texts merged × IsFaultIn lanes merged fault
 IsClean lanes merged texts (Err fault) = Unit {0}
 
--- Each text begins with the records of its log that were merged, and the front; or it spells these, where the log has ended
--- without a fault.
+-- Each text begins with the merged records of its log, and then the front. If the log has ended without a fault, the text
+-- spells just these records.
 pub record AreBegun (texts : List (List ℕ)) (lanes : List LaneParts) (merged : List (List Record)) : Type 0 where
   pub many : length merged ≡ length texts
   pub lanes_many : length lanes ≡ length texts

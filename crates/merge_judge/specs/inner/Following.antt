@@ -12,14 +12,14 @@ use Rattle.merge_judge.specs.Begun.{BeginsLog}
 use Rattle.merge_judge.specs.LaneParts.{KeptLog}
 use Rattle.merge_judge.specs.OpenedLog.{OpenedLog}
 
--- what taking a record from the bytes that were read answers
+-- what comes of taking a record from the bytes that were read
 abbrev pub TakesOne : List ℕ → List Record → OpenedLog → Result (Option Record) LogFault → OpenedLog → Type 0
 TakesOne bytes records old (Ok None) new = (new.unused ≡ []) × HasAnswered new.reader (bytes ++ old.unused) records
 TakesOne bytes records old (Ok (Some r)) new =
     (front : List ℕ) × (front ++ new.unused ≡ old.unused) × HasAnswered new.reader (bytes ++ front) (records ++ r ∷ [])
 TakesOne bytes records old (Err fault) new = IsSettled old.reader.core old.reader.cores (bytes ++ old.unused) fault
 
--- the log of this core has answered these records of what the source told: what it told first, and what it tells still
+-- this core's log has answered these records; `first` is what the source told at first, and `still` what it tells now
 pub record Follows (core cores : ℕ) (first still : Option (List ℕ)) (log : OpenedLog) (records : List Record) : Type 0 where
   pub core_is : log.reader.core ≡ core
   pub cores_is : log.reader.cores ≡ cores
@@ -27,7 +27,7 @@ pub record Follows (core cores : ℕ) (first still : Option (List ℕ)) (log : O
   pub answered : HasAnswered log.reader bytes records
   pub given : Consumes first still (bytes ++ log.unused)
 
--- the text that was told spells the log of these records, or begins with them and has this fault
+-- the text that the source told spells the log of these records, or begins with them and has this fault
 pub record EndsWhole (core cores : ℕ) (first : Option (List ℕ)) (records : List Record) : Type 0 where
   pub text : List ℕ
   pub tells : Tells first text
@@ -39,13 +39,13 @@ pub record EndsAt (core cores : ℕ) (first : Option (List ℕ)) (records : List
   pub tells : Tells first text
   pub holds : IsFaultOrDevice core cores text fault
 
--- what is answered after these records: the next one, or none where the log has ended whole
+-- the answer after these records: the next one, or None if the log has ended whole
 abbrev pub IsNext : ℕ → ℕ → Option (List ℕ) → List Record → Result (Option Record) LogFault → Option (List ℕ) → OpenedLog → Type 0
 IsNext core cores first records (Ok (Some r)) still new = Follows core cores first still new (records ++ r ∷ [])
 IsNext core cores first records (Ok None) still new = EndsWhole core cores first records
 IsNext core cores first records (Err fault) still new = EndsAt core cores first records fault
 
--- ---- a log that may hold all bytes that come
+-- ---- a log that may hold all bytes that are left of it
 
 abbrev pub FollowsOn : ℕ → ℕ → Option (List ℕ) → Option (List ℕ) → KeptLog → List Record → Type 0
 FollowsOn core cores first still kept records =

@@ -1,4 +1,4 @@
--- The text that records would have as a log, and how far it was given.
+-- The text that records would have as a log, and how much of it was given.
 use Rattle.std.specs.Prelude.{◌<◌, ◌≤◌, ℕ, Bool, true, false, List, [], ◌∷◌, ◌++◌, None, drop, length, map}
 use Rattle.log_record.specs.declared.format.Format.TheVariants.{Two}
 use Rattle.log_record.specs.declared.record.Record.{Record}
@@ -12,7 +12,7 @@ use Rattle.merge_judge.specs.Records.{AreOfLog}
 abbrev pub lines_from : List Record → ℕ → List ℕ
 lines_from records at = text_of (map record_text (drop at records)) ++ text_of (end_text (length records) ∷ [])
 
--- a log of which the header and so many records were read, and which holds the rest
+-- a log whose header and first `at` records were read, and which holds the rest
 abbrev pub kept_at : ℕ → ℕ → List Record → ℕ → KeptLog
 kept_at core cores records at = record {
   log = record {
@@ -22,7 +22,7 @@ kept_at core cores records at = record {
   whole = true;
 }
 
--- what a source of records tells: all of the text, until it was handed over
+-- what a source of records tells: the whole text until it is handed over, and then nothing
 abbrev pub text_left : ℕ → ℕ → List Record → Bool → List ℕ
 text_left core cores records true = []
 text_left core cores records false = spelling Two core cores records

@@ -1,4 +1,4 @@
--- What a merge answers, in one.
+-- All that holds of a merge's answer.
 use Rattle.std.specs.Prelude.{◌≡◌, ℕ, Bool, true, false, List, [], Option, Result, IfErr, IfSome}
 use Rattle.std.specs.Io.KnownBytes.{Appends}
 use Rattle.mem_op.specs.declared.id.OpId.{OpId}
@@ -18,7 +18,7 @@ abbrev pub line_where : Bool → OpId → List ℕ
 line_where true id = id_line id
 line_where false id = []
 
--- no count is at fault
+-- the fault isn't a bad count
 abbrev pub IsNoCount : MergeFault → Type 0
 IsNoCount (Judge fault) = IsBadCount fault → ⊥
 IsNoCount Write = Unit {0}

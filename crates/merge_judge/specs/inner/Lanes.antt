@@ -25,7 +25,7 @@ front_list (Some r) = r ∷ []
 abbrev pub falls_after : Record → Record → Bool
 falls_after earlier later = is_lt (stamp_cmp later earlier)
 
--- whether it is, and no earlier record of the log has fallen
+-- whether it is less, and no earlier record of the log has fallen
 abbrev pub falls_now : Option ℕ → Record → Record → Bool
 falls_now None earlier later = falls_after earlier later
 falls_now (Some i) earlier later = false
@@ -40,7 +40,7 @@ IsStage core cores first still log merged (Some r) fault = (fault ≡ None) × F
 IsStage core cores first still log merged None None = EndsWhole core cores first merged
 IsStage core cores first still log merged None (Some fault) = EndsAt core cores first merged fault
 
--- the log of this core was merged up to these records
+-- this core's log is merged up to and including these records
 pub record IsLaneAt {S : Type 0} (remaining : S → Option (List ℕ)) (failed : S → ℕ) (core cores : ℕ) (before after : S) (lane : LaneParts) (merged : List Record) : Type 0 where
   pub stage : IsStage core cores (remaining before) (remaining after) lane.log merged lane.front lane.fault
   pub first_fall : IsLeastWhere (is_core_fault (merged ++ front_list lane.front)) lane.falls
@@ -63,7 +63,7 @@ log_at logs core = slice_index_or logs core []
 abbrev pub entry_at : ℕ → ℕ → Record → Entry
 entry_at core index r = record { id = record { core = core; index = index }; logged = r }
 
--- (ts, rank, core) of a front as one number, or the greatest of all where there is none
+-- (ts, rank, core) of a front as one number, or the greatest number of 128 bits if there is no front
 abbrev pub IsFrontNumber : ℕ → Option Record → ℕ → Type 0
 IsFrontNumber core None n = n ≡ 340282366920938463463374607431768211455
 IsFrontNumber core (Some r) n = (n ≡ (r.ts * 4294967296 + r.rank) * 64 + core) × (r.ts ≤ 281474976710656) × (r.rank < 4294967296)
@@ -72,7 +72,7 @@ IsFrontNumber core (Some r) n = (n ≡ (r.ts * 4294967296 + r.rank) * 64 + core)
 abbrev pub NoFalls : List LaneParts → Type 0
 NoFalls lanes = (k : ℕ) (lane : LaneParts) → slice_get lanes k ≡ Some lane → lane.falls ≡ None
 
--- no log has a fault that isn't one of its order
+-- no log has a fault other than a fall
 abbrev pub NoFaults : List LaneParts → Type 0
 NoFaults lanes = (k : ℕ) (lane : LaneParts) → slice_get lanes k ≡ Some lane → lane.fault ≡ None
 
@@ -82,7 +82,7 @@ pub record IsTaken (core : ℕ) (r : Record) (old new : List LaneParts) : Type 0
   pub front : (l : LaneParts) × (slice_get old core ≡ Some l) × (l.front ≡ Some r)
   pub others : (k : ℕ) → (k ≡ core → ⊥) → slice_get new k ≡ slice_get old k
 
--- what was done comes before each front
+-- the entries that were done come before each front, by key
 abbrev pub ComeBefore : List Entry → List LaneParts → List (List Record) → Type 0
 ComeBefore done lanes merged =
     (x : Entry) → In x done → (k : ℕ) (lane : LaneParts) (r : Record) → slice_get lanes k ≡ Some lane → lane.front ≡ Some r
@@ -95,7 +95,7 @@ SomeFaulty lanes = (k : ℕ) × ((lane : LaneParts) × (slice_get lanes k ≡ So
 abbrev pub AllEnded : List LaneParts → Type 0
 AllEnded lanes = (k : ℕ) (lane : LaneParts) → slice_get lanes k ≡ Some lane → lane.front ≡ None
 
--- the logs were merged up to these records; where none falls, they were done in the order of their keys
+-- the logs are merged up to and including these records; if no log falls, the records were done in the order of their keys
 pub record IsMerged {S : Type 0} (remaining : S → Option (List ℕ)) (failed : S → ℕ) (before after : List S) (lanes : List LaneParts) (numbers : List ℕ) (clean : Bool) (merged : List (List Record)) (done : List Entry) : Type 0 where
   pub readers : length after ≡ length before
   pub many : length lanes ≡ length before

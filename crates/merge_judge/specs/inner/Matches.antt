@@ -1,4 +1,4 @@
--- A tree of matches between numbers, of which the lesser wins, and the first where they tie.
+-- A tree of matches between numbers: the lesser wins, or the first if they tie.
 use Rattle.std.specs.Prelude.{◌≡◌, ℕ, ◌+◌, ◌-◌, ◌*◌, ◌<◌, ◌≤◌, if◌then◌else◌, nat_lt, List, length, slice_index}
 
 -- which number comes to a place of the tree: the places below `many` are matches, the others are the numbers themselves
@@ -20,13 +20,13 @@ pub record ArePlayed (numbers winners : List ℕ) (from : ℕ) : Type 0 where
   pub within : (place : ℕ) → from ≤ place → place < length numbers → slice_index winners place < length numbers
   pub won : (place : ℕ) → from ≤ place → place < length numbers → slice_index winners place ≡ match_at numbers winners place
 
--- the matches were played with these numbers, one of which may have been another
+-- the matches were played with these numbers, but number `other` may have been a different one then
 pub record ArePlayedBut (other : ℕ) (numbers winners : List ℕ) : Type 0 where
   pub before : List ℕ
   pub many : length before ≡ length numbers
   pub same : (k : ℕ) → (k ≡ other → ⊥) → slice_index before k ≡ slice_index numbers k
   pub played : ArePlayed before winners 1
 
--- none of the numbers is less
+-- no number is less than this one
 abbrev pub IsLeastAt : List ℕ → ℕ → Type 0
 IsLeastAt numbers first = (k : ℕ) → k < length numbers → slice_index numbers first ≤ slice_index numbers k

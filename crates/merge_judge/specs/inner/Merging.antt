@@ -5,7 +5,7 @@ use Rattle.log_record.specs.declared.record.Entry.{Entry}
 use Rattle.merge_judge.specs.declared.merge.Merge.{Merge}
 use Rattle.merge_judge.specs.inner.Lanes.{IsMerged}
 
--- the readers before gave what the merge has taken and what the readers after have still
+-- the merge has taken these records from the readers, which stood at `before` and are now at `after`
 abbrev pub HasMerged : {S L : Type 0} → (S → Option (List ℕ)) → (S → ℕ) → List S → List S → Merge L → List (List Record) → List Entry → Type 0
 HasMerged remaining failed before after merge merged done =
     IsMerged remaining failed before after merge.lanes.items merge.fronts merge.clean merged done
@@ -14,7 +14,7 @@ abbrev pub IsMerging : {S L : Type 0} → (S → Option (List ℕ)) → (S → �
 IsMerging {S} remaining failed after merge =
     (before : List S) × ((merged : List (List Record)) × ((done : List Entry) × HasMerged remaining failed before after merge merged done))
 
--- no record of so many logs
+-- an empty log for each reader
 abbrev pub none_of : {S : Type 0} → List S → List (List Record)
 none_of readers = replicate (length readers) []
 

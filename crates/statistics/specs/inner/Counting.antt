@@ -3,7 +3,7 @@ use Rattle.std.specs.Prelude.{◌≡◌, ℕ, ◌<◌, List, count_by, get_or, l
 use Rattle.statistics.specs.Columns.{column_at, column_count, counts}
 use Rattle.statistics.specs.declared.sight.Sight.{Sight}
 
--- the count of each column is that of this
+-- each column has counted what was seen
 pub record IsCounted (numbers : List ℕ) (seen : List Sight) : Type 0 where
   pub length : length numbers ≡ column_count
   pub each : (place : ℕ) → place < column_count → get_or numbers place 0 ≡ count_by (counts (column_at place)) seen

@@ -5,7 +5,7 @@ use Rattle.log_record.specs.declared.record.Record.{Record}
 use Rattle.core_unit.specs.declared.entry.CoreEntry.{CoreEntry}
 use Rattle.statistics.specs.Sights.{is_increment, is_operation}
 
--- the stamp after so many operations, the last of which has this record
+-- the stamp after this many operations, the last of which has this record
 abbrev pub stamp_at : ℕ → ℕ → Record → ℕ
 stamp_at period count r = r.ts + (if count % period == 0 then 1 else 0)
 
@@ -13,7 +13,7 @@ stamp_at period count r = r.ts + (if count % period == 0 then 1 else 0)
 abbrev pub stamp_after : ℕ → List Record → ℕ
 stamp_after period log = option_map_or (stamp_at period (length log)) (slice_get log (length log - 1)) 0
 
--- how often it was incremented since the last operation, of these entries, the last of which comes first
+-- how often the stamp was incremented since the last operation, in these entries, the last one first
 abbrev pub increments_since : List CoreEntry → ℕ
 increments_since [] = 0
 increments_since (e ∷ before) = if is_operation e then 0 else ((if is_increment e then 1 else 0) + increments_since before)
