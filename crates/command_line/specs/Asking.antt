@@ -28,20 +28,20 @@ use Rattle.command_line.specs.declared.request.TraceFiles.{TraceFiles}
 use Rattle.command_line.specs.declared.request.TraceFiles.TheVariants.{One, Logs, Sourced}
 use Rattle.command_line.specs.declared.request.Upgrade.{Upgrade}
 
--- digits, after a plus or not, of a number below 2^64
+-- the decimal digits of a number below 2^64, with or without a plus before them
 abbrev pub IsNumber : Text → Type 0
 IsNumber text = IsNumeral 10 (without_leading_plus text) × (digits_value 10 (without_leading_plus text) < 2 ^ 64)
 
--- the number that an option gives, which is that of its word; none only where the option isn't there
+-- the number that an option's word gives; there is none only if the option isn't there
 abbrev pub IsNumberOf : Option Text → Option ℕ → Type 0
 IsNumberOf None number = number ≡ None
 IsNumberOf (Some text) number = IsNumber text × (number ≡ Some (digits_value 10 (without_leading_plus text)))
 
--- the same, with a number instead of none
+-- the same, with this default instead of none
 abbrev pub IsCountOr : ℕ → Option Text → ℕ → Type 0
 IsCountOr default text n = (number : Option ℕ) × IsNumberOf text number × (n ≡ unwrap_or number default)
 
--- whether an option that takes nothing is there: it has the text of that
+-- whether an option that takes nothing is there: its text is `true` or `false`, and if it has none, it isn't there
 pub record IsFlag (text : Option Text) (there : Bool) : Type 0 where
   pub none : text ≡ None → there ≡ false
   pub yes : text ≡ Some (codes "true") → there ≡ true
@@ -61,7 +61,7 @@ pub record IsOrder (rows : List Row) (order : Order) : Type 0 where
 abbrev pub files_given : List Row → List Text
 files_given rows = unwrap_or (all_of (codes "FILE") rows) []
 
--- whether a file of this kind is marked by `--litmus`, by `--programs`, and by `--trace`
+-- whether `--litmus` marks a file of this kind; the same for `--programs` and for `--trace`
 abbrev pub is_litmus : FileKind → Bool
 is_litmus kind.Litmus = true
 is_litmus other = false
@@ -81,8 +81,8 @@ pub record AreMarked (litmus programs trace : Bool) (certificate : Option Text) 
   pub trace_flag : IsFlag (one_of (codes "trace") rows) trace
   pub certificate_is : first_of (codes "certificate") rows ≡ certificate
 
--- A check of the files that were given by one worker, against the programs that were given, the file for a picture that was, and whether
--- another order is searched; no option says that a file isn't a log
+-- A check by one worker of the files that were given, against the programs that were given, with the file that was given for a picture, and whether
+-- no other order is to be searched for. No option says that a file isn't a log.
 pub record IsExplain (rows : List Row) (explain : Explain) : Type 0 where
   pub marks : AreMarked false false false None rows
   pub workers : explain.check.workers ≡ 1
@@ -91,19 +91,19 @@ pub record IsExplain (rows : List Row) (explain : Explain) : Type 0 where
   pub no_search : IsFlag (one_of (codes "no-search") rows) explain.no_search
   pub files : texts explain.check.files.items ≡ unwrap_or (all_of (codes "FILE") rows) []
 
--- no option is there that is of logs
+-- no option for logs is there
 pub record LackLogOptions (rows : List Row) : Type 0 where
   pub program : first_of (codes "program") rows ≡ None
   pub picture : first_of (codes "svg") rows ≡ None
   pub no_search : IsFlag (one_of (codes "no-search") rows) false
 
--- the one file that was given is looked at, of the kind that a flag says, without an option that is of logs
+-- a look at the one file that was given, of the kind that a flag says, without an option for logs
 pub record IsInspect (rows : List Row) (inspect : Inspect) : Type 0 where
   pub marks : AreMarked (is_litmus inspect.kind) (is_programs inspect.kind) (is_trace inspect.kind) None rows
   pub file : files_given rows ≡ inspect.file.now ∷ []
   pub alone : LackLogOptions rows
 
--- the files that were given, anew in format 2, under the name that was given
+-- the files that were given, to be written anew in format 2, under the name that was given
 pub record IsUpgrade (rows : List Row) (upgrade : Upgrade) : Type 0 where
   pub out : upgrade.out.now ≡ unwrap_or (first_of (codes "OUT") rows) []
   pub files : texts upgrade.files.items ≡ unwrap_or (all_of (codes "FILE") rows) []
@@ -117,15 +117,15 @@ pub record AreLimits (rows : List Row) (limits : Limits) : Type 0 where
   pub slice_lines : IsCountOr 64 (one_of (codes "slice-lines") rows) limits.slice_lines
   pub inbox : IsCountOr 8 (one_of (codes "inbox") rows) limits.inbox
 
--- the file of the programs, and what the names of the logs begin with, that were given
+-- the file of programs that was given; and the name that was given for the names of the logs to begin with
 abbrev pub programs_given : List Row → Text
 programs_given rows = unwrap_or (first_of (codes "PROGRAMS") rows) []
 
 abbrev pub out_given : List Row → Text
 out_given rows = unwrap_or (first_of (codes "OUT") rows) []
 
--- a run of the programs of the file that was given, by the numbers, the schedule and the seed that were given, and the files for the
--- numbers of the run and for its events that were
+-- a simulation of the programs in the file that was given, with the numbers, the schedule and the seed that were given, and with the files that were
+-- given for its numbers and its events
 pub record IsSim (rows : List Row) (sim : Sim) : Type 0 where
   pub limits : AreLimits rows sim.limits
   pub schedule : text_of sim.schedule ≡ first_of (codes "schedule") rows
@@ -135,8 +135,8 @@ pub record IsSim (rows : List Row) (sim : Sim) : Type 0 where
   pub programs : sim.programs.now ≡ programs_given rows
   pub out : sim.out.now ≡ out_given rows
 
--- a run in threads of the programs of the file that was given, by the numbers that were given, and the file for the numbers of the run
--- that was
+-- a run in threads of the programs in the file that was given, with the numbers that were given, and with the file that was given for the numbers of
+-- the run
 pub record IsThreaded (rows : List Row) (run : Run) : Type 0 where
   pub limits : AreLimits rows run.limits
   pub statistics : text_of run.statistics ≡ first_of (codes "stats") rows
@@ -147,8 +147,8 @@ pub record IsThreaded (rows : List Row) (run : Run) : Type 0 where
 abbrev pub test_given : List Row → Text
 test_given rows = unwrap_or (first_of (codes "TEST") rows) []
 
--- runs of the test of the file that was given, by the numbers, as many and from the seed that were given, and the file for the numbers
--- of all runs that was
+-- runs of the test in the file that was given: how many, with which numbers of the machine, from which seed or in threads, and with which file for
+-- the numbers of all runs
 pub record IsLitmus (rows : List Row) (litmus : LitmusRuns) : Type 0 where
   pub limits : AreLimits rows litmus.limits
   pub runs : IsCountOr 100 (one_of (codes "runs") rows) litmus.runs
@@ -157,19 +157,20 @@ pub record IsLitmus (rows : List Row) (litmus : LitmusRuns) : Type 0 where
   pub statistics : text_of litmus.statistics ≡ first_of (codes "stats") rows
   pub test : litmus.test.now ≡ test_given rows
 
--- these files are those of logs, whose sources are taken as given or aren't, or the only one is that of a trace
+-- these files are logs, whose sources are taken as given or aren't, or there is one file, and it is a trace
 abbrev pub IsTraceOf : Bool → Bool → List Text → TraceFiles → Type 0
 IsTraceOf are_logs are_sourced files (One name) = (are_logs ≡ false) × (are_sourced ≡ false) × (files ≡ name.now ∷ [])
 IsTraceOf are_logs are_sourced files (Logs names) = (are_logs ≡ true) × (are_sourced ≡ false) × (texts names.items ≡ files)
 IsTraceOf are_logs are_sourced files (Sourced names) = (are_logs ≡ true) × (are_sourced ≡ true) × (texts names.items ≡ files)
 
--- the certificate that was given is looked at, of the trace in the one file that was, without an option that is of logs
+-- a look at the certificate that was given for the trace in the one file that was given, without an option for logs
 pub record IsVet (rows : List Row) (vet : Confirm) : Type 0 where
   pub marks : AreMarked false false false (Some vet.certificate.now) rows
   pub trace : IsTraceOf false false (files_given rows) vet.trace
   pub alone : LackLogOptions rows
 
--- the same of these files with that of a certificate, where the first word names the trace, or else the certificate of logs
+-- the same for these files and a certificate: the first word names the trace, and the one file is the certificate; or the files are logs, and the
+-- first word names their certificate
 abbrev pub IsCertifiedBy : Bool → Bool → Text → List Text → Text → TraceFiles → Type 0
 IsCertifiedBy are_logs are_sourced first files certificate (One name) = (are_logs ≡ false) × (are_sourced ≡ false) × (name.now ≡ first) × (files ≡ certificate ∷ [])
 IsCertifiedBy are_logs are_sourced first files certificate (Logs names) = (are_logs ≡ true) × (are_sourced ≡ false) × (certificate ≡ first) × (texts names.items ≡ files)
@@ -187,7 +188,7 @@ pub record IsSearch (rows : List Row) (search : Search) : Type 0 where
   pub refutation : text_of search.refutation ≡ first_of (codes "refutation") rows
   pub picture : text_of search.picture ≡ first_of (codes "svg") rows
 
--- a look at the certificate of the trace that were given
+-- a look at the certificate and the trace that were given
 pub record IsConfirm (rows : List Row) (confirm : Confirm) : Type 0 where
   pub are_logs : Bool
   pub are_sourced : Bool
@@ -195,12 +196,12 @@ pub record IsConfirm (rows : List Row) (confirm : Confirm) : Type 0 where
   pub sources : IsFlag (one_of (codes "sources") rows) are_sourced
   pub names : IsCertifiedBy are_logs are_sourced (unwrap_or (first_of (codes "TRACE") rows) []) (files_given rows) confirm.certificate.now confirm.trace
 
--- the trace that was given, in the order of its lines, and whether it is told why it isn't right so
+-- a replay of the trace that was given, and whether to say why the order of its lines is wrong
 pub record IsReplay (rows : List Row) (replay : Replay) : Type 0 where
   pub why : IsFlag (one_of (codes "why") rows) replay.why
   pub trace : replay.trace.now ≡ unwrap_or (first_of (codes "TRACE") rows) []
 
--- the request is that of the subcommand of this name, by these arguments
+-- the request is what the subcommand of this name asks for with these arguments
 abbrev pub IsAskedBy : Text × List Row → Request → Type 0
 IsAskedBy named (request.Check check) = (named.0 ≡ codes "check") × IsCheck named.1 check
 IsAskedBy named (request.Order order) = (named.0 ≡ codes "order") × IsOrder named.1 order
@@ -224,8 +225,7 @@ IsCommandLine words = fault_of tardis words ≡ []
 abbrev pub AskVersion : List Text → Type 0
 AskVersion words = (name : Text) × (words ≡ name ∷ codes "--version" ∷ [])
 
--- the words ask for the version, or they are a command line, and the request is that of the subcommand that they name, by its arguments
--- there
+-- the words ask for the version, or they are a command line, and the request is what the subcommand that they name asks for with its arguments
 abbrev pub Asks : List Text → Request → Type 0
 Asks words request.Version = AskVersion words
 Asks words asked =
@@ -235,12 +235,12 @@ Asks words asked =
 abbrev pub AreNotOne : List Text → Type 0
 AreNotOne files = (name : Text) → files ≢ name ∷ []
 
--- only files that aren't one are refused for their usage
+-- files are refused for their usage only if they aren't one file
 abbrev pub IsNotOneOf : List Text → Misuse → Type 0
 IsNotOneOf files (Usage text) = AreNotOne files
 IsNotOneOf files OutOfMemory = ⊤
 
--- these aren't logs, and sources are to be taken of them, or they aren't one file
+-- these aren't logs, and yet their sources are to be taken, or they aren't one file
 abbrev pub AreStray : Bool → Bool → List Text → Type 0
 AreStray are_logs are_sourced files = (are_logs ≡ false) × ((are_sourced ≡ true) ⊎ AreNotOne files)
 
@@ -249,7 +249,7 @@ abbrev pub IsStrayOf : Bool → Bool → List Text → Misuse → Type 0
 IsStrayOf are_logs are_sourced files (Usage text) = AreStray are_logs are_sourced files
 IsStrayOf are_logs are_sourced files OutOfMemory = ⊤
 
--- the files that were given are such
+-- the files that were given are stray
 pub record HasStrayFiles (rows : List Row) : Type 0 where
   pub are_logs : Bool
   pub are_sourced : Bool
@@ -261,12 +261,12 @@ abbrev pub IsStrayIn : List Row → Misuse → Type 0
 IsStrayIn rows (Usage text) = HasStrayFiles rows
 IsStrayIn rows OutOfMemory = ⊤
 
--- an option is there that is of logs
+-- an option for logs is there
 abbrev pub HaveLogOption : List Row → Type 0
 HaveLogOption rows =
     IsSome (first_of (codes "program") rows) ⊎ (IsSome (first_of (codes "svg") rows) ⊎ IsFlag (one_of (codes "no-search") rows) true)
 
--- the files aren't one, or an option stands there that is of logs
+-- there isn't just one file, or an option for logs is there
 abbrev pub StandNotAlone : List Row → Type 0
 StandNotAlone rows = AreNotOne (files_given rows) ⊎ HaveLogOption rows
 
@@ -275,7 +275,7 @@ abbrev pub IsNotAloneOf : List Row → Misuse → Type 0
 IsNotAloneOf rows (Usage text) = StandNotAlone rows
 IsNotAloneOf rows OutOfMemory = ⊤
 
--- an option says that the file isn't a log, and another file, another such option or one that is of logs stands beside it
+-- an option says that the file isn't a log, and there is another file, another such option or an option for logs beside it
 abbrev pub AreMixedBy : Bool → Bool → Bool → Option Text → List Row → Type 0
 AreMixedBy false false false None rows = ⊥
 AreMixedBy true false false None rows = StandNotAlone rows
@@ -294,8 +294,8 @@ abbrev pub IsMixedIn : List Row → Misuse → Type 0
 IsMixedIn rows (Usage text) = AreMixed rows
 IsMixedIn rows OutOfMemory = ⊤
 
--- these arguments of the subcommand of this name aren't of one thing: without `--logs` more files than one are given or `--sources` is there,
--- or a file that isn't a log isn't alone
+-- the subcommand of this name can't take these arguments together: without `--logs` there isn't just one file or `--sources` is there, or a file that
+-- isn't a log isn't alone
 abbrev pub IsMisused : Text × List Row → Type 0
 IsMisused named =
     (((named.0 ≡ codes "search") ⊎ (named.0 ≡ codes "confirm")) × HasStrayFiles named.1) ⊎ ((named.0 ≡ codes "explain") × AreMixed named.1)
@@ -309,12 +309,12 @@ IsRefusedBy named OutOfMemory = ⊤
 abbrev pub AreMisused : List Text → Type 0
 AreMisused words = (named : Text × List Row) × (subcommand_of tardis words ≡ Some named) × IsMisused named
 
--- they ask for what would put a file in the place of one that is read, or of another that is put
+-- the words ask for something that would put a file in the place of one that it reads, or of another that it puts
 abbrev pub AskNotApart : List Text → Type 0
 AskNotApart words = (asked : Request) × Asks words asked × ¬ (IsApart asked)
 
--- why words are refused for their usage: they aren't a command line of the program, their arguments aren't of one thing, or what would be
--- put isn't apart
+-- why words are refused for their usage: they aren't a command line of the program, their subcommand can't take their arguments together, or what
+-- they would put isn't apart
 abbrev pub AreRefused : List Text → Type 0
 AreRefused words = ¬ (IsCommandLine words) ⊎ (AreMisused words ⊎ AskNotApart words)
 

@@ -12,11 +12,11 @@ use Rattle.command_line.specs.declared.request.TraceFiles.TheVariants.{One, Logs
 abbrev pub texts : List (Bor Text) → List Text
 texts = map (λ word. word.now)
 
--- the text of a word, where there is one
+-- the text of a word, if there is one
 abbrev pub text_of : Option (Bor Text) → Option Text
 text_of = option_map (λ word. word.now)
 
--- the names of those files that were given
+-- the names that were given, of files that need not be given
 abbrev pub names_given : List (Option (Bor Text)) → List Text
 names_given = filter_map text_of
 
@@ -51,14 +51,14 @@ files_put (Litmus asked) = names_given (asked.statistics ∷ [])
 files_put (Search asked) = names_given (asked.order ∷ asked.refutation ∷ asked.picture ∷ [])
 files_put other = []
 
--- what the names of the logs begin with that are put
+-- what the names of the logs that are put begin with
 abbrev pub logs_put : Request → Option Text
 logs_put (Upgrade asked) = Some asked.out.now
 logs_put (Sim asked) = Some asked.out.now
 logs_put (Run asked) = Some asked.out.now
 logs_put other = None
 
--- none of the names that are put is one that is read
+-- no name that is put is one that is read
 abbrev pub AreKept : List Text → List Text → Type 0
 AreKept read put = (name : Text) → Contains put name → ¬ (Contains read name)
 

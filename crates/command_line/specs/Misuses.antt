@@ -1,4 +1,4 @@
--- What a user is told of a misuse.
+-- What a user is told about a misuse.
 use Rattle.std.specs.Prelude.{ℕ, List, string_bytes}
 use Rattle.mem_op.specs.Names.{name_text}
 use Rattle.mem_op.specs.declared.fault_name.FaultName.TheVariants as named

@@ -1,4 +1,4 @@
--- What the check of files answers.
+-- What checking files answers.
 use Rattle.std.specs.Prelude.{⊤, ℕ, List, Option, None, Some, Result, Ok, Err, vec_len}
 use Rattle.std.specs.Borrow.{Bor}
 use Rattle.std.specs.Option.{IsSomeAnd}
@@ -28,7 +28,7 @@ AreInRange asked = IsInRange (vec_len asked.files) × IsInRange asked.workers
 
 -- ---- the programs
 
--- the programs that the text of their file spells, where one was given
+-- the programs that the text of their file spells, if one was given, and else none
 abbrev pub AreProgramsOf : (List ℕ → Option (List ℕ)) → Option (Bor (List ℕ)) → Option (List (List Instruction)) → Type 0
 AreProgramsOf told None None = ⊤
 AreProgramsOf told None (Some programs) = ⊥
@@ -46,7 +46,7 @@ IsUnprogrammedBy told unread given fault = IsSomeAnd given (λ name. IsUnprogram
 
 -- ---- the answer
 
--- what the judge answers to the texts of the files, and what it says by a Yes
+-- what the judge answers to the texts of the files, and what a Yes says
 abbrev pub IsJudged : (List ℕ → Option (List ℕ)) → Option (List (List Instruction)) → Check → Result Verdict JudgeFault → Type 0
 IsJudged told programs asked answer =
     (texts : List (List ℕ)) × AreTextsOf told asked.files.items texts × IsAnswerAgainst programs texts answer
@@ -62,8 +62,8 @@ IsCheckedAgainst told unread programs asked (Err (BadConfig Workers)) = IsInRang
 IsCheckedAgainst told unread programs asked (Err (BadConfig ProgramCount)) = AreInRange asked × AreNotAsMany (vec_len asked.files) programs
 IsCheckedAgainst told unread programs asked (Err OutOfMemory) = ⊤
 
--- The same with the programs that were asked for. A count of files or workers that is out of range is told before they are read, and
--- they are told before a log is opened.
+-- The same with the programs that were asked for. A number of files or workers that is out of range is refused before the programs are read, and the
+-- programs are refused before a log is opened.
 abbrev pub IsChecked : (List ℕ → Option (List ℕ)) → (List ℕ → Type 0) → Check → Result Verdict Refusal → Type 0
 IsChecked told unread asked (Ok verdict) = Against told asked.program (λ programs. IsCheckedAgainst told unread programs asked (Ok verdict))
 IsChecked told unread asked (Err (Judge (Log file line fault))) = Against told asked.program (λ programs. IsCheckedAgainst told unread programs asked (Err (Log file line fault)))

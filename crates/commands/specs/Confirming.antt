@@ -19,13 +19,13 @@ use Rattle.commands.specs.declared.place.Input.TheVariants as input
 use Rattle.commands.specs.declared.refusal.Refusal.{Refusal}
 use Rattle.commands.specs.declared.refusal.Refusal.TheVariants.{Certificate, OutOfMemory, Unread}
 
--- of the trace in these files the text of a sequential order certifies a yes, and that of a refutation a no
+-- the text of a sequential order of the trace in these files certifies a Yes, and the text of a refutation a No
 abbrev pub Certifies : TraceFiles → List (List Operation) → List ℕ → SearchAnswer → Type 0
 Certifies files cores text (Yes operations) = SpellsOrder cores text × (operations ≡ operation_count cores)
 Certifies files cores text answer = SpellsRefutation cores text × (answer ≡ no_of files (operation_count cores))
 
--- this line, counted from 1, is the first of a certificate that isn't as it should be: of a refutation, where the text begins as one, and
--- else of an order
+-- this line, counted from 1, is the first that isn't as it should be in a certificate: in a refutation if the text begins as one, and else in an
+-- order
 abbrev pub IsFirstBadOfCertificate : List (List Operation) → List ℕ → ℕ → Type 0
 IsFirstBadOfCertificate cores text line =
     (((rest : List ℕ) × (text ≡ header_line ++ rest)) × IsFirstBad cores text line)

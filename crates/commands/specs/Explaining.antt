@@ -1,5 +1,5 @@
--- What the explaining of files answers, what standard output took of it and which picture was put. The folder and the sink were `old`
--- before and are `new` after.
+-- What explaining files answers, what standard output took of it, and which picture was put. The folder was `old` before and is `new` after; standard
+-- output was `out` before and is `out'` after.
 use Rattle.std.specs.Prelude.{◌≡◌, ◌⊎◌, ℕ, List, ◌++◌, Option, None, Result, Ok, Err}
 use Rattle.std.specs.Borrow.{Bor}
 use Rattle.std.specs.Io.KnownBytes.{Appends, Keeps}
@@ -20,17 +20,17 @@ use Rattle.commands.specs.declared.place.Output.TheVariants as output
 use Rattle.commands.specs.declared.refusal.Refusal.{Refusal}
 use Rattle.commands.specs.declared.refusal.Refusal.TheVariants.{OutOfMemory, Unwritten}
 
--- what is told of another order, which is true of the operations of the set that the texts of the files spell
+-- the text is what is told about another order, and it is true of the set that the texts of the files spell
 abbrev pub TellsOtherOf : (List ℕ → Option (List ℕ)) → Explain → Verdict → List ℕ → Type 0
 TellsOtherOf told asked verdict text =
     Spelled told asked.check.files.items (λ logs. TellsOther asked.no_search verdict logs text)
 
--- the line of a verdict, then why it is so, and last what is told of another order
+-- the line of a verdict, then the reason for it, which may be any text here, and last what is told about another order
 abbrev pub TellsVerdict : (List ℕ → Option (List ℕ)) → Explain → Verdict → List ℕ → Type 0
 TellsVerdict told asked verdict text =
     (why : List ℕ) × (last : List ℕ) × (text ≡ line (verdict_text verdict) ++ (why ++ last)) × TellsOtherOf told asked verdict last
 
--- a picture was put under the name that was given, where this verdict has a picture; nothing was, where no name was given or it has none
+-- a picture was put under the name that was given, if this verdict has a picture; nothing was put if no name was given or the verdict has none
 abbrev pub PutsPictureAt : Verdict → Files → Files → Option (Bor (List ℕ)) → Type 0
 PutsPictureAt verdict old new None = new ≡ old
 PutsPictureAt verdict old new name = (HasPicture verdict × PutsSuchAt old new name IsPicture) ⊎ ((HasPicture verdict → ⊥) × (new ≡ old))
@@ -39,7 +39,7 @@ PutsPictureAt verdict old new name = (HasPicture verdict × PutsSuchAt old new n
 abbrev pub Judged : Files → (List ℕ → Type 0) → Check → (Verdict → Type 0) → Type 0
 Judged old unread asked Holds = (verdict : Verdict) × IsChecked old.told unread asked (Ok verdict) × Holds verdict
 
--- The verdict on the files, whose line standard output took first, or why there is none. A picture is put before anything is printed.
+-- The verdict on the files, or why there is none. Standard output takes the line of the verdict first. A picture is put before anything is printed.
 abbrev pub IsExplained : Files → Files → (List ℕ → Type 0) → Explain → Sink → Sink → Result Verdict Refusal → Type 0
 IsExplained old new unread asked out out' (Ok verdict) =
     IsChecked old.told unread asked.check (Ok verdict) × PutsPictureAt verdict old new asked.picture

@@ -9,11 +9,11 @@ use Rattle.verdict.specs.declared.judge_fault.JudgeFault.{JudgeFault}
 use Rattle.verdict.specs.declared.judge_fault.JudgeFault.TheVariants.{Log, Read, OutOfMemory}
 use Rattle.host_files.specs.Files.{Files, IsFirstRefused, IsOnlyRead}
 
--- these are sources of the files of these names: each tells the bytes that the folder tells
+-- these are sources of the files of these names: each tells the bytes that the folder tells, if it tells any
 abbrev pub AreSourcesOf : {S : Type 0} → (List ℕ → Option (List ℕ)) → (S → Option (List ℕ)) → List S → List (Bor (List ℕ)) → Type 0
 AreSourcesOf told remaining sources names = AllZip (λ source name. IfSome (told name.now) (λ bytes. remaining source ≡ Some bytes)) sources names
 
--- these are the texts of the files, of each that the folder tells
+-- these are the texts of the files; a file of which the folder tells nothing may have any text
 abbrev pub AreTextsOf : (List ℕ → Option (List ℕ)) → List (Bor (List ℕ)) → List (List ℕ) → Type 0
 AreTextsOf told names texts = AllZip (λ name text. Tells (told name.now) text) names texts
 
@@ -24,18 +24,18 @@ Spelled told names Holds =
 
 -- ---- why there are none
 
--- this is the number of one of the names, that of a file that can't be read
+-- this is the number of one of the names, and its file can't be read
 abbrev pub IsUnreadAt : (List ℕ → Type 0) → List (Bor (List ℕ)) → ℕ → Type 0
 IsUnreadAt unread names file = (file < length names) × HoldsAt (λ name. unread name.now) names file
 
--- this file was refused, the first of them, or memory ran out
+-- this file was the first that the folder refused, or memory ran out
 abbrev pub IsOpenFault : Files → Files → List (Bor (List ℕ)) → JudgeFault → Type 0
 IsOpenFault old new names (Read file) = IsUnreadAt (IsFirstRefused old new) names file
 IsOpenFault old new names OutOfMemory = ⊤
 IsOpenFault old new names other = ⊥
 
--- Why no logs are read from the files of these names: their first fault, a file that can't be opened or read, of whose name `unread` holds,
--- or lack of memory. The folder is as it was.
+-- Why no logs are read from the files of these names: the first fault of the set, a file that can't be opened or read (`unread` holds of its name),
+-- or lack of memory. The folder is as it was, but it may have refused a file.
 abbrev pub IsUnspelled : Files → Files → (List ℕ → Type 0) → List (Bor (List ℕ)) → JudgeFault → Type 0
 IsUnspelled old new unread names (Log file line fault) =
     (new ≡ old) × (texts : List (List ℕ)) × AreTextsOf old.told names texts × IsFirstOfSet texts file line fault

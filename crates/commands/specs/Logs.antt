@@ -9,15 +9,15 @@ pub use Rattle.command_line.specs.RunFiles.{log_name}
 use Rattle.commands.specs.declared.refusal.Refusal.{Refusal}
 use Rattle.commands.specs.declared.refusal.Refusal.TheVariants.{LogUnwritten, OutOfMemory}
 
--- core c's log, of `cores`, is told under its name, in its one spelling in this format
+-- the folder tells the log of core c of `cores` under its name, spelled in this format
 abbrev pub TellsLog : Format → (List ℕ → Option (List ℕ)) → List ℕ → ℕ → (ℕ → List Record) → ℕ → Type 0
 TellsLog format told out cores made c = (text : List ℕ) × Tells (told (log_name out c)) text × SpellsIn format c cores text (made c)
 
--- so are the logs of the first n cores
+-- the same for the logs of the first n cores
 abbrev pub TellsFirst : Format → (List ℕ → Option (List ℕ)) → List ℕ → ℕ → (ℕ → List Record) → ℕ → Type 0
 TellsFirst format told out cores made n = (c : ℕ) → c < n → TellsLog format told out cores made c
 
--- what is told of a name that none of the first n logs has is what was told of it before
+-- the folder tells what it told before of each name that none of the first n logs has
 abbrev pub KeepsOthers : (List ℕ → Option (List ℕ)) → (List ℕ → Option (List ℕ)) → List ℕ → ℕ → Type 0
 KeepsOthers told told' out n = (name : List ℕ) → ((c : ℕ) → c < n → name ≢ log_name out c) → told' name ≡ told name
 
@@ -26,11 +26,11 @@ pub record ArePutFirst (format : Format) (told told' : List ℕ → Option (List
   pub logs : TellsFirst format told' out cores made n
   pub others : KeepsOthers told told' out n
 
--- those of all cores were, and no put failed
+-- the logs of all cores were put, and nothing else, and no put failed
 abbrev pub ArePut : Format → Files → Files → List ℕ → ℕ → (ℕ → List Record) → Type 0
 ArePut format old new out cores made = ArePutFirst format old.told new.told out cores made cores × (new.failed ≡ old.failed)
 
--- the put of core c's log failed: the logs before it were put, and nothing else but what may stand in its place
+-- the put of core c's log failed: the logs before it were put, and nothing else changed but what may stand under its name
 pub record ArePutUpTo (format : Format) (old new : Files) (out : List ℕ) (cores : ℕ) (made : ℕ → List Record) (c : ℕ) : Type 0 where
   pub core : c < cores
   pub logs : TellsFirst format new.told out cores made c
@@ -54,7 +54,7 @@ abbrev pub performed_below : (ℕ → List Record) → ℕ → ℕ
 performed_below made zero = 0
 performed_below made (suc c) = performed_below made c + length (made c)
 
--- a core's log can't be written, of whose number this holds, or memory ran out
+-- the log of a core can't be written, and this holds of the core's number; or memory ran out
 abbrev pub IsUnwritten : (ℕ → Type 0) → Refusal → Type 0
 IsUnwritten Holds (LogUnwritten file) = Holds file
 IsUnwritten Holds OutOfMemory = ⊤

@@ -15,7 +15,7 @@ use Rattle.commands.specs.declared.place.Output.TheVariants as output
 use Rattle.commands.specs.declared.refusal.Refusal.{Refusal}
 use Rattle.commands.specs.declared.refusal.Refusal.TheVariants.{LogUnwritten, OutOfMemory, Unwritten}
 
--- the numbers of so many cores and slices
+-- the text of the numbers of the first `cores` units and the first `slices` slices
 abbrev pub numbers_of : ℕ → ℕ → List UnitParts → List SliceParts → List ℕ
 numbers_of cores slices us ss = statistics_text (map core_counts (take cores us)) (map slice_counts (take slices ss))
 
@@ -38,7 +38,7 @@ abbrev pub AreLeft : Format → Files → Files → List ℕ → ℕ → (ℕ �
 AreLeft format old new out cores made statistics text =
     AreLeftThen format old new out cores made (λ mid after. PutsAt mid after statistics text)
 
--- the same as far as no put failed and memory was there
+-- the same up to the first put that failed, or to where memory ran out
 abbrev pub AreLeftAsFar : Format → Files → Files → List ℕ → ℕ → (ℕ → List Record) → Option (Bor (List ℕ)) → List ℕ → Type 0
 AreLeftAsFar format old new out cores made statistics text =
     ArePutAsFar format old new out cores made

@@ -7,26 +7,26 @@ use Rattle.mem_op.specs.declared.id.OpId.{OpId}
 use Rattle.merge_judge.specs.OrderText.{end_line, id_line, id_lines, order_text}
 use Rattle.refutation.specs.Grammar.{IdFits}
 
--- The operation of an id comes after those of others: they are those of its core that are earlier in program order, among others, and it
--- finds in memory what they left there.
+-- The operation of this id can come next after those of the ids `before`. Its index is the number of these that are of its core, and a load or a swap
+-- finds in memory the word that it read.
 pub record ComesNext (cores : List (List Operation)) (before : List OpId) (id : OpId) : Type 0 where
   pub operation : Operation
   pub there : operation_at cores id ≡ Some operation
   pub in_turn : count_by (λ (other : OpId). other.core == id.core) before ≡ id.index
   pub answered : IsAnsweredBy (λ addr. last_value addr (filter_map (operation_at cores) before)) operation
 
--- the ids before this place come one after the other
+-- each id before this place can come next after those before it
 abbrev pub ComeInOrder : List (List Operation) → List OpId → ℕ → Type 0
 ComeInOrder cores ids place = (k : ℕ) (id : OpId) → k < place → slice_get ids k ≡ Some id → ComesNext cores (take k ids) id
 
--- and the one there doesn't come next
+-- the ids come in order up to this place, and the one at it can't come next
 pub record IsFirstWrongId (cores : List (List Operation)) (ids : List OpId) (place : ℕ) : Type 0 where
   pub right : ComeInOrder cores ids place
   pub id : OpId
   pub there : slice_get ids place ≡ Some id
   pub wrong : ComesNext cores (take place ids) id → ⊥
 
--- the ids come one after the other up to this place, where one doesn't come next, or where they end before all operations were performed
+-- the ids come in order up to this place, and the one at it can't come next, or the ids end there and aren't an order of all operations
 abbrev pub IsFirstWrongPlace : List (List Operation) → List OpId → ℕ → Type 0
 IsFirstWrongPlace cores ids place =
     IsFirstWrongId cores ids place ⊎ ((place ≡ length ids) × ComeInOrder cores ids place × ¬ (IsSequentialOrder cores ids))
@@ -35,20 +35,21 @@ IsFirstWrongPlace cores ids place =
 abbrev pub NoIdInFront : List ℕ → Type 0
 NoIdInFront bytes = (id : OpId) (rest : List ℕ) → IdFits id → bytes ≢ id_line id ++ rest
 
--- the bytes begin with the lines of these ids, and what comes after them with no id's line
+-- the bytes are the lines of these ids and then the rest, which doesn't begin with an id's line
 pub record BeginsWithIds (bytes : List ℕ) (ids : List OpId) (rest : List ℕ) : Type 0 where
   pub each_fits : AllByRecursion IdFits ids
   pub text : bytes ≡ id_lines ids ++ rest
   pub none_in_front : NoIdInFront rest
 
--- After the lines of these ids comes something else than the `end` line with their number alone, or they aren't an order of all operations.
--- It is that line of the text, or the line after it.
+-- Either these ids aren't an order of all operations, or the `end` line with their number doesn't come after their lines: then it is this line that
+-- should be the `end` line. Or bytes come after the `end` line, and this is the line after it.
 abbrev pub EndsBadly : List (List Operation) → List OpId → List ℕ → ℕ → Type 0
 EndsBadly cores ids rest line =
     ((line ≡ length ids + 1) × (¬ (IsSequentialOrder cores ids) ⊎ ((more : List ℕ) → rest ≢ end_line (length ids) ++ more)))
     ⊎ ((line ≡ length ids + 2) × ((more : List ℕ) × (more ≢ []) × (rest ≡ end_line (length ids) ++ more)))
 
--- this line, counted from 1, is the first of the text of an order that isn't as it should be
+-- This line, counted from 1, is the first that isn't as it should be in the text of an order. If operations are missing and bytes come after the
+-- `end` line, it may also be the line after the `end` line.
 abbrev pub IsFirstBadOfOrder : List (List Operation) → List ℕ → ℕ → Type 0
 IsFirstBadOfOrder cores bytes line =
     (ids : List OpId) × (rest : List ℕ) × BeginsWithIds bytes ids rest

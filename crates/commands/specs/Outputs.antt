@@ -1,10 +1,10 @@
--- A file that is put where a name was given for it. The folder was `old` before and is `new` after.
+-- A file that is put if a name was given for it. The folder was `old` before and is `new` after.
 use Rattle.std.specs.Prelude.{◌≡◌, ℕ, List, Option, None, Some}
 use Rattle.std.specs.Borrow.{Bor}
 use Rattle.log_file.specs.Devices.{Failed, Tells}
 use Rattle.host_files.specs.Files.{Files, KeepsFiles}
 
--- the name that the file goes to, where one was given
+-- this is the name that was given for the file
 abbrev pub IsNameOf : Option (Bor (List ℕ)) → List ℕ → Type 0
 IsNameOf None name = ⊥
 IsNameOf (Some given) name = name ≡ given.now
@@ -15,12 +15,12 @@ pub record Puts (old new : Files) (name bytes : List ℕ) : Type 0 where
   pub others : KeepsFiles old.told new.told (λ other. other ≡ name)
   pub quiet : new.failed ≡ old.failed
 
--- the bytes were put where a name was given, and else nothing was
+-- the bytes were put if a name was given, and else nothing was
 abbrev pub PutsAt : Files → Files → Option (Bor (List ℕ)) → List ℕ → Type 0
 PutsAt old new None bytes = new ≡ old
 PutsAt old new (Some name) bytes = Puts old new name.now bytes
 
--- bytes of which this holds were
+-- the same with bytes of which this holds
 abbrev pub PutsSuchAt : Files → Files → Option (Bor (List ℕ)) → (List ℕ → Type 0) → Type 0
 PutsSuchAt old new None Holds = new ≡ old
 PutsSuchAt old new (Some name) Holds = (bytes : List ℕ) × Holds bytes × Puts old new name.now bytes

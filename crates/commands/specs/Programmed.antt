@@ -1,4 +1,4 @@
--- The configuration and the programs that a run was asked for with.
+-- The configuration and the programs of the run that was asked for.
 use Rattle.std.specs.Prelude.{◌≡◌, ℕ, List, Option, None}
 use Rattle.command_line.specs.declared.request.Limits.{Limits}
 use Rattle.lease_rule.specs.ConfigParts.{ConfigParts}
@@ -10,7 +10,7 @@ use Rattle.log_record.specs.declared.format.Format.{Format as LogFormat}
 use Rattle.log_record.specs.declared.format.Format.TheVariants as of_logs
 use Rattle.commands.specs.Programs.{AreProgramsIn}
 
--- the numbers of the machine; the turns are those that are left to it
+-- the numbers of the machine, with 10,000,000 turns
 abbrev pub config_of : Limits → ConfigParts
 config_of limits = record {
   slices = limits.slices;
@@ -22,7 +22,7 @@ config_of limits = record {
   turns = 10000000;
 }
 
--- the format of the logs of programs of this format
+-- the format of the logs of a run of programs in this format
 abbrev pub log_format : ProgramFormat → LogFormat
 log_format of_programs.One = of_logs.One
 log_format of_programs.Two = of_logs.Two

@@ -13,11 +13,11 @@ use Rattle.commands.specs.declared.refusal.Refusal.TheVariants.{Programs, OutOfM
 abbrev pub AreProgramsIn : (List ℕ → Option (List ℕ)) → List ℕ → SetParts → Type 0
 AreProgramsIn told name set = (text : List ℕ) × Tells (told name) text × SpellsSet text set
 
--- why the text of the file of this name isn't a set of programs, and not for lack of memory
+-- why the text of the file of this name isn't a set of programs, other than for lack of memory
 abbrev pub IsTextFault : (List ℕ → Option (List ℕ)) → List ℕ → ProgramFault → Type 0
 IsTextFault told name fault = (fault ≢ NoTextMemory) × (text : List ℕ) × Tells (told name) text × IsSetFault text fault
 
--- why there are no programs: the text of their file, or it can't be read (`unread` holds of the names of such files), or memory ran out
+-- why there are no programs: the text has a fault, the file can't be read (`unread` holds of the names of such files), or memory ran out
 abbrev pub IsUnprogrammed : (List ℕ → Option (List ℕ)) → (List ℕ → Type 0) → List ℕ → Refusal → Type 0
 IsUnprogrammed told unread name (Programs fault) = IsTextFault told name fault
 IsUnprogrammed told unread name (Unread input.Programs) = unread name

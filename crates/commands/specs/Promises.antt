@@ -34,14 +34,14 @@ use Rattle.commands.specs.declared.refusal.Refusal.TheVariants as refused
 pub use Rattle.host_files.specs.Files.{KeepsFiles}
 pub use Rattle.commands.specs.Sinks.{sink_of}
 
--- the words are a command line, and this holds of what they ask for
+-- the words ask for something, and this holds of it
 abbrev pub AskFor : List (List ℕ) → (Request → Type 0) → Type 0
 AskFor words Holds = (asked : Request) × Asks words asked × Holds asked
 
 -- ---- after 0
 
--- where a verdict was asked for, its files spell a set whose operations are sequentially consistent, and where a trace was looked at, so are
--- its operations: those of logs with their words, whether sources are taken as given or not
+-- If a verdict was asked for, its files spell a set whose operations are sequentially consistent. If a trace was searched, confirmed or replayed, its
+-- operations are sequentially consistent; if logs have the trace, their operations have their words, even when the sources are taken as given.
 abbrev pub AreConsistent : (List ℕ → Option (List ℕ)) → Request → Type 0
 AreConsistent told (Check asked) = FilesAreConsistent told asked
 AreConsistent told (Order asked) = TextsAreConsistent told asked.files.items
@@ -51,23 +51,23 @@ AreConsistent told (Confirm asked) = TellsTrace told (own_files asked.trace) IsC
 AreConsistent told (Replay asked) = TellsText told asked.trace.now IsConsistentText
 AreConsistent told other = ⊤
 
--- and, where they were checked against programs, some whole run of these on the flat machine performs just its operations
+-- if the set was checked against programs, some whole run of these on the flat machine performs just the operations of the set
 abbrev pub RunFlat : (List ℕ → Option (List ℕ)) → Request → Type 0
 RunFlat told (Check asked) = FilesRunFlat told asked
 RunFlat told (Explain asked) = FilesRunFlat told asked.check
 RunFlat told other = ⊤
 
--- where an order was asked for, standard output took the order text of a sequential order of that set
+-- if an order was asked for, standard output took the order text of a sequential order of the set
 abbrev pub AreOrdered : (List ℕ → Option (List ℕ)) → Sink → Sink → Request → Type 0
 AreOrdered told out out' (Order asked) = TakesOrder told asked.files.items out out'
 AreOrdered told out out' other = ⊤
 
--- where logs were to be written anew, the new files spell in format 2 the logs that the old ones spelled
+-- if logs were to be written anew, the new files spell in format 2 the logs that the old ones spelled
 abbrev pub AreUpgraded : Files → Files → Request → Type 0
 AreUpgraded old new (Upgrade asked) = LeavesAnew old new asked
 AreUpgraded old new other = ⊤
 
--- where a run was asked for, the judge says Yes to the logs that it leaves, against its programs
+-- if a run was asked for, the judge says Yes to the logs that the run leaves, against its programs
 abbrev pub LeaveYes : (List ℕ → Option (List ℕ)) → (List ℕ → Option (List ℕ)) → Request → Type 0
 LeaveYes told told' (Sim asked) = LeavesYes told told' asked.programs.now asked.out.now
 LeaveYes told told' (Run asked) = LeavesYes told told' asked.programs.now asked.out.now
@@ -75,9 +75,9 @@ LeaveYes told told' other = ⊤
 
 -- ---- after 1
 
--- where a verdict was asked for, that on the set of its files is a No, and what standard output took of an order lacks the `end` line; where
--- a trace was looked at, its operations aren't sequentially consistent (where sources are taken as given, those with the sources in place of
--- the words), and where one was replayed, the order of its lines isn't sequential
+-- If a verdict was asked for, the set of its files gets No, and what standard output took of an order lacks the `end` line. If a trace was searched
+-- or confirmed, its operations aren't sequentially consistent; they have the sources in place of the words if the sources are taken as given. If a
+-- trace was replayed, the order of its lines isn't sequential.
 abbrev pub AreWrong : (List ℕ → Option (List ℕ)) → Sink → Sink → Request → Type 0
 AreWrong told out out' (Check asked) = FilesGetNo told asked
 AreWrong told out out' (Order asked) = TextsGetNo told asked.files.items × Took out out' LacksEnd
@@ -89,8 +89,8 @@ AreWrong told out out' other = ⊤
 
 -- ---- which files are put
 
--- a name under which what was asked for may put a file: that of a log, of a run's numbers or events, of the totals of a litmus test's runs, of
--- a picture or of a certificate
+-- a name under which the request may put a file: that of a log, of a run's numbers or events, of the totals of a litmus test's runs, of a picture or
+-- of a certificate
 abbrev pub IsPutName : Request → List ℕ → Type 0
 IsPutName (Explain asked) name = IsNameOf asked.picture name
 IsPutName (Upgrade asked) name = IsLogName asked.out.now name
@@ -100,14 +100,14 @@ IsPutName (Litmus asked) name = IsNameOf asked.statistics name
 IsPutName (Search asked) name = IsOutputName asked name
 IsPutName other name = ⊥
 
--- such a name, under which no file is read
+-- such a name, and no file of this name is read
 abbrev pub IsPutUnread : Request → List ℕ → Type 0
 IsPutUnread asked name = IsPutName asked name × ¬ (Contains (files_read asked) name)
 
 -- ---- after a refusal
 
--- it is for what was read, for a number or since a search gave up: no run, no upgrade and no search has put anything yet. So is each that ends
--- with 2 or 3.
+-- The refusal comes before any file is put. It is for a file that was read or couldn't be, for a number, for a run of a litmus test, or because a
+-- search gave up. Each refusal with status 2 or 3 is such.
 abbrev pub ComesFirst : Refusal → Type 0
 ComesFirst (refused.Simulation fault) = ⊥
 ComesFirst (refused.Run fault) = ⊥
@@ -116,24 +116,24 @@ ComesFirst (refused.LogUnwritten file) = ⊥
 ComesFirst refused.OutOfMemory = ⊥
 ComesFirst refusal = ⊤
 
--- after a fault of a run its logs as far as the fault are left
+-- after a fault of a run, its logs up to the fault are left, as far as they could be written
 abbrev pub LeavesSoFar : Files → Files → Request → Refusal → Type 0
 LeavesSoFar old new (Sim asked) (refused.Simulation fault) = LeavesTraced old new asked fault
 LeavesSoFar old new (Run asked) (refused.Run fault) = LeavesRun old new asked fault
 LeavesSoFar old new asked refusal = ⊤
 
--- the only file of a trace
+-- the one file of a trace; none if logs have it
 abbrev pub trace_file : TraceFiles → Option (Bor (List ℕ))
 trace_file (One name) = Some name
 trace_file files = None
 
--- the logs whose trace it is
+-- the files of the logs whose trace it is; none if one file has it
 abbrev pub trace_logs : TraceFiles → List (Bor (List ℕ))
 trace_logs (One name) = []
 trace_logs (Logs names) = names.items
 trace_logs (Sourced names) = names.items
 
--- the name of a file that is read alone
+-- the file that the request reads as this input, if there is one
 abbrev pub file_at : Request → Input → Option (Bor (List ℕ))
 file_at (Check asked) input.Programs = asked.program
 file_at (Explain asked) input.Programs = asked.check.program
@@ -152,7 +152,7 @@ file_at (Confirm asked) input.Certificate = Some asked.certificate
 file_at (Replay asked) input.Trace = Some asked.trace
 file_at asked place = None
 
--- the names of the files of a set of logs
+-- the files of the set of logs that the request reads
 abbrev pub logs_read : Request → List (Bor (List ℕ))
 logs_read (Check asked) = asked.files.items
 logs_read (Order asked) = asked.files.items
@@ -163,7 +163,7 @@ logs_read (Confirm asked) = trace_logs asked.trace
 logs_read (Vet asked) = trace_logs asked.trace
 logs_read other = []
 
--- a file of which 28 is told is one that couldn't be opened or read
+-- a refusal with number 28 names a file that couldn't be opened or read
 abbrev pub IsUnreadThere : (List ℕ → Type 0) → Request → Refusal → Type 0
 IsUnreadThere unread asked (refused.Judge (Read file)) = IsUnreadAt unread (logs_read asked) file
 IsUnreadThere unread asked (refused.Unread place) = IsSomeAnd (file_at asked place) (λ name. unread name.now)
@@ -174,15 +174,15 @@ abbrev pub IsUnended : Sink → Sink → Request → Type 0
 IsUnended out out' (Order asked) = Took out out' LacksEnd
 IsUnended out out' other = ⊤
 
--- What holds after this refusal of what was asked; `Unread` holds of the name of a file that couldn't be opened or read. Where it comes first, no
--- file is changed.
+-- What holds after this refusal of the request. If the refusal comes before any file is put, no file is changed. `Unread` holds of the name of a file
+-- that couldn't be opened or read.
 pub record IsRefused (old new : Files) (Unread : List ℕ → Type 0) (out out' : Sink) (asked : Request) (refusal : Refusal) : Type 0 where
   pub kept : ComesFirst refusal → new.told ≡ old.told
   pub left : LeavesSoFar old new asked refusal
   pub unread : IsUnreadThere Unread asked refusal
   pub unended : IsUnended out out' asked
 
--- standard error was told of this refusal, and it has this exit status
+-- standard error took the line of this refusal, or failed after a beginning of it; and the refusal has this exit status
 pub record IsTold (err err' : Sink) (exit : ℕ) (refusal : Refusal) : Type 0 where
   pub text : Takes err err' (line (refusal_text refusal))
   pub status : exit ≡ refusal_status refusal
@@ -192,7 +192,7 @@ abbrev pub IsRefusedCall : Files → Files → (List ℕ → Type 0) → Sink �
 IsRefusedCall old new unread out out' err err' status asked =
     (refusal : Refusal) × IsTold err err' status refusal × IsRefused old new unread out out' asked refusal
 
--- Words that are no command line, or for which there was no memory: nothing is read, put or printed.
+-- Words that are refused for their usage, or for which there was no memory: the folder and standard output are as they were.
 pub record AreUnasked (old new : Files) (words : List (List ℕ)) (out out' : Sink) (status : ℕ) : Type 0 where
   pub files : new ≡ old
   pub output : out' ≡ out

@@ -1,4 +1,4 @@
--- What is told of refusals, and their exit statuses.
+-- What is printed for each refusal, and its exit status.
 use Rattle.std.specs.Prelude.{ℕ, List, ◌++◌, codes}
 use Rattle.std.specs.Fmt.{decimal}
 use Rattle.mem_op.specs.Names.{name_text}
@@ -94,7 +94,7 @@ output_text output.Refutation = codes "refutation"
 output_text output.Statistics = codes "statistics"
 output_text output.Events = codes "trace"
 
--- a No is told as one
+-- a No to the logs of a run is printed as a No, and not as a refusal
 abbrev pub run_cause_text : ℕ → RunCause → List ℕ
 run_cause_text k (cause.No fault) = codes "no: " ++ cause_text k (cause.No fault)
 run_cause_text k why = codes "refused: " ++ cause_text k why

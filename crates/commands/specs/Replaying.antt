@@ -19,15 +19,15 @@ use Rattle.commands.specs.declared.place.Output.TheVariants as output
 use Rattle.commands.specs.declared.refusal.Refusal.{Refusal}
 use Rattle.commands.specs.declared.refusal.Refusal.TheVariants.{Trace, OutOfMemory, Unread, Unwritten}
 
--- the text of the file of this name is one of which this holds
+-- this holds of the text of the file of this name
 abbrev pub TellsText : (List ℕ → Option (List ℕ)) → List ℕ → (List ℕ → Type 0) → Type 0
 TellsText told name Holds = (text : List ℕ) × Tells (told name) text × Holds text
 
--- each line says something, and the trace of that, which may have any length, is sequentially consistent
+-- each line says something, and the trace of what they say, which may have any length, is sequentially consistent
 abbrev pub IsConsistentText : List ℕ → Type 0
 IsConsistentText text = (said : List TraceLine) × AllZip IsLine (lines text) said × IsConsistent (trace_of said)
 
--- the order of the lines isn't a sequential order of their trace, from the line of some load or swap on
+-- from the line of some load or swap on, the lines aren't in a sequential order of their trace
 abbrev pub IsOutOfOrder : List ℕ → Type 0
 IsOutOfOrder text = (wrong : WrongParts) × StopsAt text (IsWrongAt wrong)
 

@@ -12,12 +12,12 @@ search_status (Yes operations) = 0
 search_status (No operations) = 1
 search_status (NoBySources operations) = 1
 
--- the no of so many operations in these files, which says whether their sources were taken as given
+-- a No to this many operations in these files; it says whether their sources were taken as given
 abbrev pub no_of : TraceFiles → ℕ → SearchAnswer
 no_of (Sourced names) operations = NoBySources operations
 no_of files operations = No operations
 
--- a yes says that the operations are sequentially consistent, and a no that they aren't
+-- a Yes says that the operations are sequentially consistent, a No that they aren't, and both say how many they are
 abbrev pub IsRightOf : List (List Operation) → SearchAnswer → Type 0
 IsRightOf cores (Yes operations) = IsConsistent cores × (operations ≡ operation_count cores)
 IsRightOf cores (No operations) = ¬ (IsConsistent cores) × (operations ≡ operation_count cores)

@@ -1,4 +1,4 @@
--- What a search of a trace answers, and which files were put. The folder was `old` before and is `new` after.
+-- What a search of a trace answers, and which files it puts. The folder was `old` before and is `new` after.
 use Rattle.std.specs.Prelude.{◌≡◌, ◌⊎◌, ⊤, ℕ, List, Option, Result, Ok, Err, unwrap_or}
 use Rattle.host_files.specs.Files.{Files, IsOnlyRead}
 use Rattle.commands.specs.Outputs.{FailsPutAt, IsNameOf, PutsAt, PutsSuchAt}
@@ -21,7 +21,7 @@ use Rattle.commands.specs.declared.place.Output.TheVariants as output
 use Rattle.commands.specs.declared.refusal.Refusal.{Refusal}
 use Rattle.commands.specs.declared.refusal.Refusal.TheVariants.{Undecided, OutOfMemory, Unwritten}
 
--- how many steps a search may make: 100,000,000 where nothing is said
+-- how many steps a search may make: 100,000,000 if no number is given
 abbrev pub budget_or_default : Option ℕ → ℕ
 budget_or_default given = unwrap_or given 100000000
 
@@ -41,32 +41,32 @@ AnswersBy files cores (found.Order order) answer = answer ≡ Yes (operation_cou
 AnswersBy files cores (found.Refutation steps) answer = answer ≡ no_of files (operation_count cores)
 AnswersBy files cores found.Undecided answer = ⊥
 
--- the text of a refutation and then a picture of it were put, each where that was asked for
+-- the text of a refutation and then a picture were put, each if it was asked for
 abbrev pub PutsBoth : Files → Files → Search → List Step → Type 0
 PutsBoth old new asked steps =
     (between : Files) × PutsAt old between asked.refutation (refutation_text steps) × PutsSuchAt between new asked.picture IsPicture
 
--- what shows the answer was put where that was asked for
+-- what shows the answer was put if it was asked for
 abbrev pub PutsProof : Files → Files → Search → Answer → Type 0
 PutsProof old new asked (found.Order order) = PutsAt old new asked.order (order_text order.items)
 PutsProof old new asked (found.Refutation steps) = PutsBoth old new asked steps
 PutsProof old new asked found.Undecided = ⊥
 
--- a refutation was put, where that was asked for, and the put of its picture failed
+-- a refutation was put if it was asked for, and then the put of its picture failed
 abbrev pub FailsPicture : Files → Files → Search → List (List Operation) → Type 0
 FailsPicture old new asked cores =
     (steps : List Step) × IsRefutation cores steps
     × ((between : Files) × PutsAt old between asked.refutation (refutation_text steps) × FailsPutAt between new asked.picture)
 
--- the proof was found, and put where that was asked for
+-- a proof of this answer was found, and put if it was asked for
 pub record Finds (old new : Files) (asked : Search) (cores : List (List Operation)) (answer : SearchAnswer) : Type 0 where
   pub proof : Answer
   pub is_proof : IsProof cores proof
   pub answers : AnswersBy asked.trace cores proof answer
   pub puts : PutsProof old new asked proof
 
--- The answer, or why there is none: what is found is put before anything is printed. A search that gives up promises nothing of the trace.
--- `unread` holds of the name of a file that can't be opened or read.
+-- The answer, or why there is none. What is found is put before anything is printed. If a search gives up, it promises only that the files tell a
+-- trace. `unread` holds of the name of a file that can't be opened or read.
 abbrev pub IsSearched : Files → Files → (List ℕ → Type 0) → Search → Result SearchAnswer Refusal → Type 0
 IsSearched old new unread asked (Ok answer) = TellsTrace old.told asked.trace (λ cores. Finds old new asked cores answer)
 IsSearched old new unread asked (Err (Unwritten output.Standard)) =

@@ -28,12 +28,12 @@ use Rattle.commands.specs.declared.refusal.Refusal.TheVariants.{Schedule, Config
 
 -- ---- what was asked for
 
--- the commands that the text of the schedule spells for this number of cores; none where no schedule was given
+-- the commands that the text of the schedule spells for this number of cores; none if no schedule was given
 abbrev pub AreCommandsOf : (List ℕ → Option (List ℕ)) → Option (Bor (List ℕ)) → ℕ → List Command → Type 0
 AreCommandsOf told None cores commands = commands ≡ []
 AreCommandsOf told (Some name) cores commands = (text : List ℕ) × Tells (told name.now) text × SpellsSchedule cores text commands
 
--- why the text isn't a schedule for this number of cores, and not for lack of memory
+-- why the text isn't a schedule for this number of cores, other than for lack of memory
 abbrev pub IsFaultOfSchedule : (List ℕ → Option (List ℕ)) → Option (Bor (List ℕ)) → ℕ → ScheduleFault → Type 0
 IsFaultOfSchedule told None cores fault = ⊥
 IsFaultOfSchedule told (Some name) cores fault = (fault ≢ NoScheduleMemory) × (text : List ℕ) × Tells (told name.now) text × IsScheduleFault cores text fault
@@ -42,7 +42,7 @@ IsFaultOfSchedule told (Some name) cores fault = (fault ≢ NoScheduleMemory) ×
 abbrev pub IsUnreadSchedule : (List ℕ → Type 0) → Option (Bor (List ℕ)) → Type 0
 IsUnreadSchedule unread given = IsSomeAnd given (λ name. unread name.now)
 
--- why there is no schedule: the text of its file, or it can't be read, or memory ran out
+-- why there is no schedule: its text has a fault, its file can't be read, or memory ran out
 abbrev pub IsUnscheduled : (List ℕ → Option (List ℕ)) → (List ℕ → Type 0) → Option (Bor (List ℕ)) → ℕ → Refusal → Type 0
 IsUnscheduled told unread name cores (Schedule fault) = IsFaultOfSchedule told name cores fault
 IsUnscheduled told unread name cores (Unread input.Schedule) = IsUnreadSchedule unread name
@@ -60,23 +60,22 @@ Scheduled told asked Holds =
 abbrev pub EndsIn : Sim → SetParts → List Command → (CoreParts → Type 0) → Type 0
 EndsIn asked set commands Holds = (q : CoreParts) × IsSimulated commands asked.seed (opening_parts set.programs (config_of asked.limits)) q × Holds q
 
--- the numbers of a machine of so many cores
+-- the text of the numbers of a machine of this many cores
 abbrev pub numbers_in : Sim → ℕ → CoreParts → List ℕ
 numbers_in asked cores q = numbers_of cores asked.limits.slices (map (λ seat. seat.unit) q.seats) q.slices
 
--- the logs, and then the numbers, of the machine in which this fault ended the simulation, are left as far as they could be written
+-- the folder has the logs, and then the numbers, of the machine in which this fault ended the simulation, as far as they could be written
 abbrev pub LeavesSimulation : Files → Files → Sim → SimulationFault → Type 0
 LeavesSimulation old new asked fault =
     Scheduled old.told asked (λ set commands. (q : CoreParts)
     × IsSimulationFault commands asked.seed (opening_parts set.programs (config_of asked.limits)) q fault
     × AreLeftAsFar (log_format set.format) old new asked.out.now (length set.programs) (log_at (world q)) asked.statistics (numbers_in asked (length set.programs) q))
 
--- The number of operations that the programs performed, or why there is none. The configuration is looked at first, then
--- the programs, then the schedule; what a simulation is refused for is told before a log that can't be written. The
--- folder was `old` before and is `new` after: the logs of the machine to which the simulation came, and then its numbers where a file
--- was given for them. After a log that can't be written they are those before it, and after a fault of the simulation all, or those of the
--- first cores. `unread`
--- holds of the name of a file that can't be opened or read.
+-- The number of operations that the programs performed, or why there is none. The configuration is looked at first, then the programs, then the
+-- schedule; a fault of the simulation is told before a log that can't be written. The folder was `old` before and is `new` after. It gets the logs of
+-- the machine in which the simulation ended, and then its numbers if a file was given for them. If a log can't be written, it gets the logs before
+-- that one. After a fault of the simulation it gets all logs, or those of the first cores. `unread` holds of the name of a file that can't be opened
+-- or read.
 abbrev pub IsRun : Files → Files → (List ℕ → Type 0) → Sim → Result ℕ Refusal → Type 0
 IsRun old new unread asked (Ok count) =
     Scheduled old.told asked (λ set commands. EndsIn asked set commands (λ q.
@@ -101,16 +100,16 @@ IsRun old new unread asked (Err fault) =
 abbrev pub IsSimName : Sim → List ℕ → Type 0
 IsSimName asked name = IsLeftName asked.out.now asked.statistics name ⊎ IsNameOf asked.events name
 
--- a file of events was put where a name was given for it
+-- a file of events was put if a name was given for it
 abbrev pub PutsEvents : Files → Files → Option (Bor (List ℕ)) → Type 0
 PutsEvents mid new events = PutsSuchAt mid new events (λ text. ⊤)
 
--- the same, or the put failed, or it didn't come to that
+-- the same, or the put failed, or nothing was put
 abbrev pub TriesEvents : Files → Files → Option (Bor (List ℕ)) → Type 0
 TriesEvents mid new events = PutsEvents mid new events ⊎ FailsPutAt mid new events ⊎ (new ≡ mid)
 
--- What a simulation answers that answered `first` before its events were put, when the folder was `mid`. After a fault of the run they are put
--- too; else they are put only where all before them was left.
+-- What a simulation answers if it had answered `first` before its events were put, and the folder was `mid` then. After a number of operations, the
+-- events are put, or the answer says why not. After a fault of the simulation they are put if that can be done. After any other refusal they aren't.
 abbrev pub IsTraced : Files → Files → Option (Bor (List ℕ)) → Result ℕ Refusal → Result ℕ Refusal → Type 0
 IsTraced mid new events (Ok count) (Ok n) = (n ≡ count) × PutsEvents mid new events
 IsTraced mid new events (Ok count) (Err (Unwritten output.Events)) = FailsPutAt mid new events

@@ -3,7 +3,7 @@ use Rattle.std.specs.Prelude.{◌≤◌, ◌⊎◌, ℕ, List, [], ◌∷◌, �
 use Rattle.std.specs.Io.KnownBytes.{Appends}
 use Rattle.log_file.specs.Devices.{Failed}
 
--- what a sink took, where it tells that, and how often it failed
+-- what a sink took, if it tells that, and how often it failed
 pub record Sink : Type 0 where
   pub contents : Option (List ℕ)
   pub failed : ℕ

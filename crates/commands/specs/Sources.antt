@@ -1,5 +1,5 @@
--- The sources that the logs of a set name, in place of the words. Each store gets a number of its own. A load or a swap reads the number of
--- the store that it names, and 0 where that is `init`.
+-- The logs of a set with sources in place of their words. Each store gets a number of its own, and stores that. A load or a swap reads the number of
+-- the store that it names, or 0 if it names `init`; if its word can't come from there, it reads a number that no store has.
 use Rattle.std.specs.Prelude.{◌≡◌, ◌+◌, ◌*◌, ◌==◌, ◌&&◌, ◌≤◌, All, ℕ, suc, Bool, false, List, [], ◌∷◌, if◌then◌else◌, length, map}
 use Rattle.std.specs.Option.{option_map_or}
 use Rattle.log_record.specs.Entries.{core_entries, operation_of, operations_of, record_at}
@@ -29,12 +29,12 @@ no_number = 18446744073709551615
 abbrev pub stores : ℕ → ℕ → Operation → Bool
 stores addr word operation = is_store_to addr operation && (word_left operation == word)
 
--- whether a read of this word at this address may have it from a source: the initial 0, or an operation of the set that stored it there
+-- whether a read of this word at this address may have it from this source: the initial 0, or an operation of the set that stored it there
 abbrev pub may_give : List (List Record) → Source → ℕ → ℕ → Bool
 may_give logs Init addr word = word == 0
 may_give logs (From id) addr word = option_map_or (λ r. stores addr word (operation_of r)) (record_at logs id) false
 
--- the number that a read of this word gets: that of its source, where it may have the word from there
+-- the number that a read of this word gets: that of its source if the word may come from there, and else one that no store has
 abbrev pub number_read : List (List Record) → Source → ℕ → ℕ → ℕ
 number_read logs source addr word = if may_give logs source addr word then source_number source else no_number
 
@@ -47,7 +47,7 @@ numbered_by logs id r (Swap source read) = record r { value = store_number id; a
 abbrev pub numbered : List (List Record) → Entry → Record
 numbered logs e = numbered_by logs e.id e.logged e.logged.act
 
--- the logs from a core's on, so
+-- the logs from this core's on, with numbers in place of their words
 abbrev pub numbered_from : List (List Record) → ℕ → List (List Record) → List (List Record)
 numbered_from logs core [] = []
 numbered_from logs core (log ∷ more) = map (numbered logs) (core_entries core 0 log) ∷ numbered_from logs (suc core) more

@@ -1,5 +1,5 @@
--- What the counting of a litmus test's outcomes answers, what standard output took of their table, and what the folder tells of the
--- totals. The folder was `before` and is `after`, the sink was `old` before and is `new` after.
+-- What counting the outcomes of a litmus test answers, what standard output took of their table, and which totals were put. The folder was `before`
+-- and is `after`; the sink was `old` and is `new`.
 use Rattle.std.specs.Prelude.{◌≡◌, ◌≢◌, ⊤, ℕ, Bool, true, false, List, Option, None, Some, Result, Ok, Err}
 use Rattle.std.specs.Io.KnownBytes.{Appends, Keeps}
 use Rattle.std.specs.List.{AllByRecursion, list_any}
@@ -33,7 +33,7 @@ use Rattle.commands.specs.declared.refusal.Refusal.TheVariants.{Test, Config, Co
 abbrev pub IsTestIn : (List ℕ → Option (List ℕ)) → List ℕ → LitmusParts → Type 0
 IsTestIn told name t = (text : List ℕ) × Tells (told name) text × Spells text t × AllByRecursion IsProgram t.programs
 
--- why there is no test: the text of its file, or it can't be read, or memory ran out
+-- why there is no test: its text has a fault, its file can't be read, or memory ran out
 abbrev pub IsUntested : (List ℕ → Option (List ℕ)) → (List ℕ → Type 0) → List ℕ → Refusal → Type 0
 IsUntested told unread name (Test fault) = (fault ≢ NoTestMemory) × (text : List ℕ) × Tells (told name) text × IsFault text fault
 IsUntested told unread name (Unread input.Test) = unread name
@@ -45,7 +45,7 @@ pub record IsInOrder (asked : LitmusRuns) : Type 0 where
   pub config : first_bad (config_of asked.limits) ≡ None
   pub runs : IsRunCount asked.runs
 
--- and something holds of the test
+-- the same, and something holds of the test
 abbrev pub Tested : (List ℕ → Option (List ℕ)) → LitmusRuns → (LitmusParts → Type 0) → Type 0
 Tested told asked Holds = IsInOrder asked × (t : LitmusParts) × IsTestIn told asked.test.now t × Holds t
 
@@ -56,7 +56,7 @@ abbrev pub IsTableBy : Bool → LitmusParts → ConfigParts → ℕ → ℕ → 
 IsTableBy true t g runs seed collected = IsThreadTable t g runs collected
 IsTableBy false t g runs seed collected = IsSeededTable t g runs seed collected
 
--- and why there is none
+-- why there is no table of runs by threads, or by a seed
 abbrev pub IsFaultBy : Bool → LitmusParts → ConfigParts → ℕ → ℕ → CollectFault → Type 0
 IsFaultBy true t g runs seed fault = IsThreadFault t g runs fault
 IsFaultBy false t g runs seed fault = IsCollectFault t g runs seed fault
@@ -85,9 +85,9 @@ IsUntabled told unread asked other = ⊥
 
 -- ---- its text
 
--- Whether an outcome of the table is forbidden, whose text the sink took, and then the totals' text was put where a file was given for it;
--- or why there is none. Where the sink failed, it took a beginning of the text; where the totals couldn't be put, all of it; and else it
--- holds what it held.
+-- Whether an outcome of the table is forbidden, or why there is no such answer. The sink took the table's text, and then the text of the totals was
+-- put if a file was given for it. If the sink failed, it took a beginning of the table's text. If the totals couldn't be put, it took all of it.
+-- After any other refusal it holds what it held.
 abbrev pub IsCounted : Files → Files → (List ℕ → Type 0) → LitmusRuns → Sink → Sink → Result Bool Refusal → Type 0
 IsCounted before after unread asked old new (Ok forbidden) =
     Tabled before.told asked (λ collected. (forbidden ≡ has_forbidden collected.table) × Appends old.contents new.contents (table_text collected.table)

@@ -24,11 +24,11 @@ use Rattle.commands.specs.declared.refusal.Refusal.TheVariants.{Judge, Trace, Ou
 abbrev pub SpellsTraceAt : (List ℕ → Option (List ℕ)) → List ℕ → List (List Operation) → Type 0
 SpellsTraceAt told name cores = (text : List ℕ) × Tells (told name) text × SpellsTrace text cores
 
--- the texts of the files spell the logs of a set, of which this is the trace
+-- the texts of the files spell the logs of a set, and this is its trace
 abbrev pub SpellLogsAt : (List ℕ → Option (List ℕ)) → List (Bor (List ℕ)) → List (List Operation) → Type 0
 SpellLogsAt told names cores = Spelled told names (λ logs. cores ≡ operations_of logs)
 
--- so do these, with the sources that they name in place of their words
+-- the same, with the sources that the logs name in place of their words
 abbrev pub SpellSourcesAt : (List ℕ → Option (List ℕ)) → List (Bor (List ℕ)) → List (List Operation) → Type 0
 SpellSourcesAt told names cores = Spelled told names (λ logs. cores ≡ sourced_operations logs)
 
@@ -42,7 +42,7 @@ IsTraceIn told (Sourced names) cores = IsInRange (vec_len names) × SpellSources
 abbrev pub TellsTrace : (List ℕ → Option (List ℕ)) → TraceFiles → (List (List Operation) → Type 0) → Type 0
 TellsTrace told files Holds = (cores : List (List Operation)) × IsTraceIn told files cores × Holds cores
 
--- the same files, of whose sources nothing is taken as given
+-- the same files, but their sources aren't taken as given
 abbrev pub own_files : TraceFiles → TraceFiles
 own_files (Sourced names) = LogFiles names
 own_files files = files
@@ -63,8 +63,8 @@ IsNoTrace told unread name (Unread input.Trace) = unread name
 IsNoTrace told unread name OutOfMemory = ⊤
 IsNoTrace told unread name fault = ⊥
 
--- Why the files tell no logs: their number is out of range, which is told before one is opened, or the first fault of the set, or one that
--- can't be opened or read.
+-- Why the files tell no logs: their number is out of range, which is told before one is opened; or the first fault of the set; or a file that can't
+-- be opened or read.
 abbrev pub AreNoLogs : (List ℕ → Option (List ℕ)) → (List ℕ → Type 0) → List (Bor (List ℕ)) → JudgeFault → Type 0
 AreNoLogs told unread names (BadConfig FileCount) = IsOutOfRange (length names)
 AreNoLogs told unread names (BadConfig count) = ⊥
@@ -75,17 +75,17 @@ AreNoLogs told unread names NoLogMemory = ⊥
 
 -- `unread` holds of the names of files that can't be opened or read.
 
--- the text of the only file has this fault first
+-- the trace is in one file, and this is the first fault of its text
 abbrev pub IsTextFaultIn : (List ℕ → Option (List ℕ)) → TraceFiles → TraceFault → Type 0
 IsTextFaultIn told (One name) fault = IsTextFault told name.now fault
 IsTextFaultIn told files fault = ⊥
 
--- the only file can't be opened or read
+-- the trace is in one file, which can't be opened or read
 abbrev pub IsUnreadIn : (List ℕ → Type 0) → TraceFiles → Type 0
 IsUnreadIn unread (One name) = unread name.now
 IsUnreadIn unread files = ⊥
 
--- the files are to be logs, and tell none
+-- the files should be logs, and this is why they tell none
 abbrev pub AreNoLogsIn : (List ℕ → Option (List ℕ)) → (List ℕ → Type 0) → TraceFiles → JudgeFault → Type 0
 AreNoLogsIn told unread (One name) fault = ⊥
 AreNoLogsIn told unread (LogFiles names) fault = AreNoLogs told unread names.items fault

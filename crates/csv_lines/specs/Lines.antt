@@ -13,17 +13,17 @@ cells_line cells = join_with_byte 44 cells ++ 10 ∷ []
 abbrev pub written : Writer (Vec ℕ) → Option (List ℕ)
 written writer = text_written (λ text. Some text.items) writer
 
--- it stands between two lines, with the plain setting
+-- the writer stands between two lines, with the default settings
 pub record IsFresh (writer : Writer (Vec ℕ)) : Type 0 where
   pub setup : writer_setup writer ≡ default_writer
   pub fields : fields_written writer ≡ 0
   pub none : has_written writer ≡ false
 
--- no cell needs quotes
+-- a cell needs no quotes
 abbrev pub IsPlain : List ℕ → Type 0
 IsPlain cell = needs_quotes default_writer cell ≡ false
 
--- nor do two or more cells side by side
+-- two cells or more, none of which needs quotes
 pub record IsPlainRow (cells : List (List ℕ)) : Type 0 where
   pub some : 2 ≤ length cells
   pub each : AllByRecursion IsPlain cells

@@ -6,7 +6,7 @@ use Rattle.std.specs.Int.Digits.{digits_of}
 unfoldable pub numeral : ℕ → List ℕ
 numeral n = if n == 0 then codes "0" else map (λ digit. 48 + digit) (digits_of 10 n)
 
--- the number, or none where 64 bits don't hold it
+-- the number, or none if 64 bits don't hold it
 abbrev pub as_u64 : ℕ → Option ℕ
 as_u64 n = if nat_lt n (2 ^ 64) then Some n else None
 

@@ -7,7 +7,7 @@ abbrev pub ◌>>=◌ : {A B : Type 0} → Option A → (A → Option B) → Opti
 None >>= f = None
 (Some x) >>= f = f x
 
--- what was read, where no bytes are left after it
+-- what was read, if no bytes are left after it
 abbrev pub whole : {A : Type 0} → Option (A × List ℕ) → Option A
 whole None = None
 whole (Some x) = if length x.1 == 0 then Some x.0 else None
@@ -17,7 +17,7 @@ whole (Some x) = if length x.1 == 0 then Some x.0 else None
 abbrev pub is_digit : ℕ → Bool
 is_digit b = nat_le 48 b && nat_le b 57
 
--- the number that the digits at the front go on to from this one, and the bytes after them
+-- the number that comes of writing the digits at the front after this number, and the bytes after them
 abbrev pub onward : ℕ → List ℕ → ℕ × List ℕ
 onward n [] = (n, [])
 onward n (b ∷ bs) = if is_digit b then onward (n * 10 + (b - 48)) bs else (n, b ∷ bs)

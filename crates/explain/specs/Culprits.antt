@@ -18,7 +18,7 @@ named_id Store = None
 named_id (Swap Init read) = None
 named_id (Swap (From id) read) = Some id
 
--- whether a store comes after this one by key; after the initial 0 each does
+-- whether an entry is a store that comes after this one by key; every store comes after the initial 0
 abbrev pub is_over : Option Entry → Entry → Bool
 is_over None e = is_store_entry e
 is_over (Some store) e = is_store_entry e && is_lt (entry_cmp store e)
@@ -27,7 +27,7 @@ is_over (Some store) e = is_store_entry e && is_lt (entry_cmp store e)
 abbrev pub first_over : List Entry → ℕ → Option Entry → Option Entry
 first_over group place store = find (is_over store) (take place group)
 
--- the first store over what a load read, which names this record; none where that isn't a store at its address
+-- the first store over what a load read, if this is the record that the load names; none if what it names isn't there or isn't a store at its address
 abbrev pub culprit : List Entry → ℕ → Entry → Option Entry → Option Entry
 culprit group place load None = if is_some (named_id load.logged.act) then None else first_over group place None
 culprit group place load (Some named) =

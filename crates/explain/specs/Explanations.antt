@@ -16,7 +16,7 @@ use Rattle.explain.specs.declared.explanation.Explanation.{Explanation}
 use Rattle.explain.specs.declared.explanation.Explanation.TheVariants.{Load, CoreOrder, Program, Summed}
 use Rattle.explain.specs.declared.explanation.Summary.{Summary}
 
--- the records of a set that gets Yes, where they are few enough to be drawn: each of them once, in the order of keys
+-- the records of a set that gets Yes, if they are few enough to be drawn: each of them once, in the order of keys
 pub record IsSummary (es : List Entry) (summary : Summary) : Type 0 where
   pub rows : IfSome summary.rows (λ rows. IsPermutation es rows.items)
   pub ordered : IfSome summary.rows (λ rows. IsSorted entry_cmp rows.items)
@@ -26,8 +26,8 @@ pub record IsSummary (es : List Entry) (summary : Summary) : Type 0 where
 abbrev pub LogHas : List (List Record) → ℕ → (List Record → Type 0) → Type 0
 LogHas logs core Holds = (log : List Record) × (slice_get logs core ≡ Some log) × Holds log
 
--- The explanation is of this verdict: of what is read at its address where the verdict stands on the index, of the log of a core where it
--- stands on the logs, and of all records with a Yes.
+-- The explanation fits this verdict. A No that stands on the index is explained by what was read at an address, a No that stands on the logs by the
+-- log of a core, and a Yes by all records.
 abbrev pub Explains : Option (List (List Instruction)) → Verdict → Basis → Explanation → Type 0
 Explains programs (No fault) (Index es) (Load found) = IsWrongRead es fault.id fault.rule found
 Explains programs (No fault) (Logs logs) (CoreOrder fall) = (fault.rule ≡ OfCoreOrder) × LogHas logs fault.id.core (λ log. IsFall log fault.id fall)

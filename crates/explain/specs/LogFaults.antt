@@ -24,13 +24,13 @@ pub record IsFall (log : List Record) (id : OpId) (fall : Fall) : Type 0 where
   pub fault : slice_get (of_core id.core log) id.index ≡ Some fall.fault
   pub rows : fall.rows.items ≡ window (of_core id.core log) id.index
 
--- the state to which a program comes by the records before an index, where they are what it issues, each load with its logged value
+-- the state to which a program comes by the records before an index, if these are what it issues, each load with its logged value
 abbrev pub IsStateAt : List Instruction → List Record → ℕ → State → Type 0
 IsStateAt program log index state = state_after program (map operation_of (take index log)) ≡ Some state
 
--- What stands at this id in its log, if it hasn't ended, and the records around it; and, where the core's program issues those before,
--- the operation that it issues next with its instruction and the line of that in the programs' text, if it hasn't ended, and what its
--- registers hold then.
+-- What stands at this id in its log, if the log goes that far, and the records around it. If the core's program issues the records before it, also
+-- what the program's registers hold then, and the operation that the program issues next, if it hasn't ended, with its instruction and the
+-- instruction's line in the programs' text.
 pub record IsDeparture (programs : List (List Instruction)) (log : List Record) (id : OpId) (departure : Departure) : Type 0 where
   pub program : List Instruction
   pub there : slice_get programs id.core ≡ Some program
@@ -42,6 +42,6 @@ pub record IsDeparture (programs : List (List Instruction)) (log : List Record) 
   pub line : (state : State) → IsStateAt program log id.index state → IfSome departure.due (λ due. due.line ≡ line_in_set programs id.core (state.position + 1))
   pub registers : (state : State) → IsStateAt program log id.index state → (n : ℕ) → n < 16 → slice_index departure.registers n ≡ reg state n
 
--- the same by the programs that were given
+-- the same against the programs that were given
 abbrev pub IsDepartureBy : Option (List (List Instruction)) → List Record → OpId → Departure → Type 0
 IsDepartureBy programs log id departure = IsSomeAnd programs (λ set. IsDeparture set log id departure)

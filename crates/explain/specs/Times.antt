@@ -10,11 +10,11 @@ use Rattle.address_check.specs.LastStores.{is_store_entry}
 abbrev pub is_tie : Entry → Entry → Bool
 is_tie a b = (a.logged.ts == b.logged.ts) && (a.logged.rank == b.logged.rank) && not (a.id.core == b.id.core)
 
--- the rule that an operation breaks where it should read this store
+-- the rule that an operation breaks if this is the store that it should read
 abbrev pub rule_with : Entry → Option Entry → Option AddressRule
 rule_with e store = option_map (λ f. f.rule) (act_fault e.logged.act e store)
 
--- whether it would break none just before the store that it should read, which another core made
+-- whether a load would break no rule just before the store that it should read, and another core made that store
 abbrev pub is_right_earlier : List Entry → Entry → Bool
 is_right_earlier es load =
     option_map_or (λ store. not (store.id.core == load.id.core) && is_none (rule_with load (right_store es store))) (right_store es load) false
@@ -23,6 +23,6 @@ is_right_earlier es load =
 abbrev pub next_store : List Entry → ℕ → Option Entry
 next_store group place = find is_store_entry (drop (place + 1) group)
 
--- whether it would break none just after that store, where another core made it
+-- whether a load would break no rule just after that store, and another core made it
 abbrev pub is_right_later : Entry → Option Entry → Bool
 is_right_later load next = option_map_or (λ store. not (store.id.core == load.id.core) && is_none (rule_with load (Some store))) next false

@@ -1,15 +1,15 @@
 -- What stands around a place.
 use Rattle.std.specs.Prelude.{ℕ, ◌+◌, ◌-◌, List, length, min, slice_range}
 
--- how far to each side is told
+-- how many places are told to each side
 abbrev pub reach : ℕ
 reach = 8
 
--- the first place that is told of
+-- the first place that is told
 abbrev pub window_start : ℕ → ℕ
 window_start place = place - reach
 
--- the place after the last that is told of
+-- the place after the last that is told
 abbrev pub window_end : {X : Type 0} → List X → ℕ → ℕ
 window_end xs place = min (place + reach + 1) (length xs)
 

@@ -47,9 +47,9 @@ pub record AreRowsOf (t : LitmusParts) (outcomes : List (List ℕ)) (rows : List
   pub ascending : AreAscending rows
   pub all : total rows ≡ length outcomes
 
--- ---- tables of runs, each of which `Ran` says by its number, and where they ended
+-- ---- tables of runs: `Ran` says of a run, by its number, where it ended
 
--- a table is made of this number of runs
+-- a table may be made of this number of runs
 abbrev pub IsRunCount : ℕ → Type 0
 IsRunCount runs = (1 ≤ runs) × (runs ≤ 100000)
 
@@ -78,13 +78,13 @@ pub record IsFirstWithout (E : Type 0) (Ran : ℕ → E → Type 0) (at : E → 
   pub before : AreEndsOf E Ran at t ends
   pub cause : Why
 
--- why there is no table, where `Why` says of a run by its number why it has no outcome that counts
+-- why there is no table; `Why` says of a run, by its number, why it has no outcome that counts
 abbrev pub IsFaultOf : (E : Type 0) → (ℕ → E → Type 0) → (ℕ → RunCause → Type 0) → (E → World) → LitmusParts → ℕ → CollectFault → Type 0
 IsFaultOf E Ran Why at t runs BadRuns = IsBadRunCount runs
 IsFaultOf E Ran Why at t runs (Run k cause) = IsFirstWithout E Ran at t runs k (Why k cause)
 IsFaultOf E Ran Why at t runs OutOfMemory = Unit {0}
 
--- a run is told whose logs get No
+-- the fault tells of a run whose logs get No
 abbrev pub TellsNo : CollectFault → Type 0
 TellsNo BadRuns = ⊥
 TellsNo (Run k cause) = SaysNo cause

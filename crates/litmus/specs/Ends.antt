@@ -39,14 +39,14 @@ outcome_of t w = map (word_in w) t.shown
 abbrev pub GetsYes : LitmusParts → World → Type 0
 GetsYes t w = (count : ℕ) × (run_verdict_of t.programs (logs_of t w) ≡ Yes count)
 
--- its logs get No
+-- the cause is that the logs of the run get No
 abbrev pub SaysNo : RunCause → Type 0
 SaysNo (cause.No fault) = Unit {0}
 SaysNo (cause.Simulation fault) = ⊥
 SaysNo (cause.Threads fault) = ⊥
 SaysNo cause.OutOfMemory = ⊥
 
--- Why the logs where a run has ended don't get Yes: they get No. Lack of memory may come instead, and no other fault of the judge.
+-- Why the logs of a run that has ended don't get Yes: they get No. Lack of memory may come instead, and no other fault of the judge.
 abbrev pub IsJudgeCause : LitmusParts → World → RunCause → Type 0
 IsJudgeCause t w (cause.No fault) = run_verdict_of t.programs (logs_of t w) ≡ No fault
 IsJudgeCause t w (cause.Simulation fault) = ⊥

@@ -1,4 +1,4 @@
--- The texts of why there is no table.
+-- The texts that say why there is no table.
 use Rattle.std.specs.Prelude.{ℕ, List, ◌++◌, codes}
 use Rattle.std.specs.Fmt.{decimal}
 use Rattle.mem_op.specs.Names.{name_text}
@@ -11,7 +11,7 @@ use Rattle.litmus.specs.declared.run_fault.CollectFault.TheVariants as fault
 use Rattle.litmus.specs.declared.run_cause.RunCause.{RunCause}
 use Rattle.litmus.specs.declared.run_cause.RunCause.TheVariants.{Simulation, Threads, No, OutOfMemory}
 
--- of run k
+-- why run k has no outcome that counts
 abbrev pub cause_text : ℕ → RunCause → List ℕ
 cause_text k (Simulation why) = simulation.fault_text why
 cause_text k (Threads why) = threads.fault_text why.core why.cause

@@ -31,15 +31,15 @@ seed_of seed k = (seed + k) % 2 ^ 64
 
 -- ---- a run by threads
 
--- the units and slices of a whole run of the programs, which is one of the core machine
+-- the units and slices of a whole run of the programs, which is also a run of the core machine
 abbrev pub IsThreadRun : LitmusParts → ConfigParts → ThreadEnd → Type 0
 IsThreadRun t g end = IsRun t.programs g end.units end.slices × IsMachineRun t.programs g end.units end.slices
 
--- the fault of a run that isn't ended: the core of 30 or 31 has stopped before the end of its program
+-- the fault of a run that didn't end: if it is number 30 or 31, its core has stopped before the end of its program
 abbrev pub IsUnendedRun : List (List Instruction) → ThreadsFault → Type 0
 IsUnendedRun programs fault = (us : List UnitParts) × (((fault.cause ≡ GaveUp) ⊎ (fault.cause ≡ Stopped)) → StoppedShort programs us fault.core)
 
--- ---- a run of either kind, which `Ran` says, and where it ended
+-- ---- a run of either kind: `Ran` says where it ended
 
 -- some such run ended with this outcome and these numbers, and its logs get Yes
 pub record IsEndOf (E : Type 0) (Ran : E → Type 0) (at : E → World) (numbers : E → RunNumbers) (t : LitmusParts) (outcome : List ℕ) (n : RunNumbers) : Type 0 where
@@ -66,7 +66,7 @@ IsThreadEnd t g outcome n = IsEndOf ThreadEnd (IsThreadRun t g) left (thread_num
 
 -- ---- why a run has no outcome that counts
 
--- The run isn't ended, or its logs don't get Yes. Lack of memory may come instead.
+-- The run doesn't end, or its logs don't get Yes. Lack of memory may come instead.
 pub data IsCauseOf (E : Type 0) (Ran : E → Type 0) (NotEnded : RunCause → Type 0) (at : E → World) (t : LitmusParts) (why : RunCause) : Type 0 where
   not_ended : NotEnded why → IsCauseOf E Ran NotEnded at t why
   not_yes : (end : E) → Ran end → IsJudgeCause t (at end) why → IsCauseOf E Ran NotEnded at t why

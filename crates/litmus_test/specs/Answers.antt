@@ -15,7 +15,7 @@ use Rattle.litmus_test.specs.declared.fault.LitmusFault.TheVariants.{BadLitmusLi
 abbrev pub Spells : List ℕ → LitmusParts → Type 0
 Spells bytes t = IsTestOf IsSection t × (bytes ≡ text_of (litmus_lines t))
 
--- lines of a test whose sections are such in its format
+-- the lines of a test; `Section` holds of its format and each of its sections
 abbrev pub LitmusLines : (ProgramFormat → List Instruction → Type 0) → List (List ℕ) → Type 0
 LitmusLines Section lines = (t : LitmusParts) × (IsTestOf Section t × (lines ≡ litmus_lines t))
 

@@ -1,4 +1,4 @@
--- The texts of faults, and which of a program's is which.
+-- The texts of the faults, and the fault of a test for each fault of a program.
 use Rattle.std.specs.Prelude.{ℕ, List, ◌++◌, codes}
 use Rattle.std.specs.Fmt.{decimal}
 use Rattle.mem_op.specs.Names.{name_text}
@@ -8,7 +8,7 @@ use Rattle.core_program.specs.declared.fault.ProgramFault.TheVariants as program
 use Rattle.litmus_test.specs.declared.fault.LitmusFault.{LitmusFault}
 use Rattle.litmus_test.specs.declared.fault.LitmusFault.TheVariants.{BadLitmusLine, BadLine, TooLong, SkipPastEnd, OutOfMemory}
 
--- the line where there is one, a number and a name
+-- the line if there is one, a number and a name
 abbrev pub fault_text : LitmusFault → List ℕ
 fault_text (BadLitmusLine line) = codes "line " ++ (decimal line ++ (codes ": " ++ name_text named.BadLitmusLine))
 fault_text (BadLine line) = codes "line " ++ (decimal line ++ (codes ": " ++ name_text named.BadProgramLine))

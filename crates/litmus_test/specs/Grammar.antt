@@ -46,7 +46,7 @@ pub record IsName (name : List ℕ) : Type 0 where
   pub few : length name ≤ 32
   pub each : AllByRecursion (λ b. is_name_byte b ≡ true) name
 
--- a register of one of so many cores
+-- a register of one of this many cores
 abbrev pub IsRegister : ℕ → ShownParts → Type 0
 IsRegister cores shown = (shown.core < cores) × (shown.register < 16)
 
@@ -66,7 +66,7 @@ pub record AreForbidden (count : ℕ) (forbidden : List (List ℕ)) : Type 0 whe
   pub few : length forbidden ≤ 16
   pub each : AllByRecursion (IsOutcome count) forbidden
 
--- a test whose sections are such in its format
+-- a test; `Section` holds of its format and each of its sections
 pub record IsTestOf (Section : ProgramFormat → List Instruction → Type 0) (t : LitmusParts) : Type 0 where
   pub name : IsName t.name
   pub programs : IsSetOf (Section t.format) t.programs

@@ -6,8 +6,8 @@ use Rattle.log_file.specs.declared.progress.Stage.{Stage}
 use Rattle.log_file.specs.OneLine.{IsOneLine}
 use Rattle.log_file.specs.Standing.{IsInRecords, IsSound, limit_at, whole_text}
 
--- A reader of the log of one core: what it read last in whole lines, how many records these were, the bytes of the line that
--- isn't whole yet, and the fault that it answers from then on.
+-- A reader of the log of one core: which kind of whole line it read last, how many records it has read, the bytes of the line that isn't whole yet,
+-- and the fault that it answers from then on, if one came.
 pub record Answering : Type 0 where
   pub core : ℕ
   pub cores : ℕ
@@ -16,7 +16,7 @@ pub record Answering : Type 0 where
   pub begun : List ℕ
   pub fault : Option LogFault
 
--- the bytes that were fed, where the records in them are these: whole lines, and the beginning of one more
+-- the bytes that were fed, if these are the records in them: whole lines, and the beginning of one more
 abbrev pub fed_text : Answering → List Record → List ℕ
 fed_text s records = whole_text s.stage s.core s.cores records ++ s.begun
 
@@ -33,8 +33,8 @@ pub record HasAnswered (s : Answering) (bytes : List ℕ) (records : List Record
 abbrev pub IsFaultless : Answering → Type 0
 IsFaultless s = (bytes : List ℕ) × ((records : List Record) × HasAnswered s bytes records)
 
--- What is answered to a piece after these bytes and records: the next record, whose line ends with the bytes that were used and
--- was read last, or none, where the piece was used whole.
+-- What the reader answers to a piece after these bytes and records: the next record, whose line ends with the bytes that were used; or none, and then
+-- the whole piece was used.
 abbrev pub AnswersOne : List ℕ → List Record → List ℕ → (ℕ × Option Record) → Answering → Type 0
 AnswersOne bytes records piece (used, None) new =
     (used ≡ length piece) × HasAnswered new (bytes ++ piece) records

@@ -6,7 +6,7 @@ use Rattle.log_file.specs.declared.fault.LogFault.{LogFault}
 use Rattle.log_file.specs.declared.fault.LogFault.TheVariants.{At, OutOfMemory, Read}
 use Rattle.log_file.specs.Log.{Spells, IsFirstFault}
 
--- a fault that bytes have, and no lack of memory or failed read
+-- a fault that bytes have, not lack of memory or a failed read
 abbrev pub IsOfText : LogFault → Type 0
 IsOfText (At k f) = Unit {0}
 IsOfText OutOfMemory = ⊥
@@ -35,11 +35,11 @@ abbrev pub IsAnswer : ℕ → ℕ → List ℕ → Result (Vec Record) LogFault 
 IsAnswer core cores bytes (Ok log) = Spells core cores bytes log.items
 IsAnswer core cores bytes (Err fault) = IsFaultOrMemory core cores bytes fault
 
--- the same of the bytes of a source, where a failed read may come too; the records are kept in a list
+-- the same for the bytes of a source: a failed read may come too, and the records are kept in a list
 abbrev pub IsListAnswer : {L : Type 0} → (L → List Record) → ℕ → ℕ → List ℕ → Result L LogFault → Type 0
 IsListAnswer records core cores bytes (Ok list) = Spells core cores bytes (records list)
 IsListAnswer records core cores bytes (Err fault) = IsFaultOrDevice core cores bytes fault
 
--- the list is that of the records alone
+-- the same with a list of the records alone
 abbrev pub IsReadAnswer : ℕ → ℕ → List ℕ → Result (Vec Record) LogFault → Type 0
 IsReadAnswer = IsListAnswer (λ (log : Vec Record). log.items)

@@ -1,4 +1,4 @@
--- The texts of the faults: a number and a name, after the line where there is one.
+-- The texts of the faults: a number and a name, after the line if there is one.
 use Rattle.std.specs.Prelude.{ℕ, List, ◌++◌, codes}
 use Rattle.std.specs.Fmt.{decimal}
 use Rattle.mem_op.specs.Names.{name_text}

@@ -27,7 +27,7 @@ Feeds core cores (Err f) piece r new = (r ≡ Err f) × (new ≡ Err f)
 Feeds core cores (Ok bytes) piece (Ok _) new = new ≡ Ok (bytes ++ piece)
 Feeds core cores (Ok bytes) piece (Err f) new = (new ≡ Err f) × IsSettled core cores (bytes ++ piece) f
 
--- where no fault came, none but Truncated holds of the bytes that were fed
+-- if no fault came, no fault but Truncated holds of the bytes that were fed
 abbrev pub IsOpen : ℕ → ℕ → Result (List ℕ) LogFault → Type 0
 IsOpen core cores (Ok bytes) = (k : ℕ) (f : FormatFault) → FaultAt core cores (lines_of bytes) k f → f ≡ Truncated
 IsOpen core cores (Err f) = Unit {0}
@@ -38,7 +38,7 @@ Finishes core cores (Err f) r = r ≡ Err f
 Finishes core cores (Ok bytes) (Ok log) = Spells core cores bytes log.items
 Finishes core cores (Ok bytes) (Err fault) = IsFaultOf core cores bytes fault
 
--- how many bytes were fed, where no fault came
+-- how many bytes were fed; 0 after a fault
 abbrev pub fed_len : Result (List ℕ) LogFault → ℕ
 fed_len (Ok bytes) = length bytes
 fed_len (Err f) = 0

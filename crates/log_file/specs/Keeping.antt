@@ -17,7 +17,7 @@ feeding_of a = record {
   fed = fed_of a.reader.fault (fed_text a.reader a.records.items);
 }
 
--- where no fault came, the records are those that the reader has answered
+-- if no fault came, the records are those that the reader has answered
 abbrev pub KeepsRecords : Answering → List Record → Type 0
 KeepsRecords s records = s.fault ≡ None → HasAnswered s (fed_text s records) records
 

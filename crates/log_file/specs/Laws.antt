@@ -20,19 +20,19 @@ FaultlessSpellsOne =
     → (records : List Record) × (Spells core cores bytes records)
     × ((others : List Record) → Spells core cores bytes others → others ≡ records)
 
--- no spelling begins another, also of the other format, and one log has one spelling in each format
+-- no spelling begins another, even in the other format, and each spelling is that of one log in one format
 abbrev pub NoSpellingBeginsAnother : Type 0
 NoSpellingBeginsAnother =
     (f g : Format) (a b c d : ℕ) (rs qs : List Record) (x y : List ℕ)
     → spelling f a b rs ++ x ≡ spelling g c d qs ++ y → (f ≡ g) × (a ≡ c) × (b ≡ d) × (rs ≡ qs)
 
--- a first fault other than Truncated is that of the whole, however the bytes go on
+-- a first fault other than Truncated stays the first, however the bytes go on
 abbrev pub FaultStays : Type 0
 FaultStays =
     (core cores : ℕ) (bytes more : List ℕ) (k : ℕ) (f : FormatFault)
     → IsFirstFault core cores bytes k f → f ≢ Truncated → IsFirstFault core cores (bytes ++ more) k f
 
--- no fault but Truncated holds of bytes that a reader of records took without a fault, and no log has more of them
+-- no fault but Truncated holds of bytes that a reader of records took without a fault, and these are fewer than 2^27
 abbrev pub NoFaultPassedOver : Type 0
 NoFaultPassedOver =
     (s : Answering) (bytes : List ℕ) (records : List Record) → HasAnswered s bytes records

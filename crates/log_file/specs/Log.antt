@@ -31,7 +31,7 @@ text_of lines = flat_map with_lf lines
 abbrev pub spelling : Format → ℕ → ℕ → List Record → List ℕ
 spelling format core cores records = text_of (log_lines format core cores records)
 
--- what has a spelling in a format: the log of a core of at most 64, of records that the format has
+-- what has a spelling in a format: the log of one of at most 64 cores, with records that the format has, and not too many
 pub record IsLog (format : Format) (core cores : ℕ) (records : List Record) : Type 0 where
   pub core_fits : core < cores
   pub cores_fit : cores ≤ 64
@@ -52,8 +52,8 @@ Spells core cores bytes records = (format : Format) × SpellsIn format core core
 
 -- ---- the first fault
 
--- The bytes between line feeds. Each but the last is a line with its line feed, a whole line; what stands
--- after the last line feed, perhaps nothing, is the last.
+-- The bytes between line feeds. Each but the last is a whole line, with a line feed after it; the last is what stands after the last line feed,
+-- perhaps nothing.
 abbrev pub lines_of : List ℕ → List (List ℕ)
 lines_of bytes = slice_split (λ b. b == 10) bytes
 
@@ -64,8 +64,8 @@ line lines k = slice_index_or ([] ∷ lines) k []
 abbrev pub IsWhole : List (List ℕ) → ℕ → Type 0
 IsWhole lines k = (0 < k) × (k < length lines)
 
--- The format that line 1 says: 2 where it begins as a header of format 2 does, else 1. A line 1 that is no
--- header has a fault itself, so that it says nothing of the first fault.
+-- The format that line 1 says: 2 if it begins as a header of format 2 does, else 1. If line 1 is no header, it has a fault itself, so that the format
+-- doesn't matter to the first fault.
 unfoldable pub said_format : List (List ℕ) → Format
 said_format lines = if is_some (after (codes "tardis-log 2 core ") (line lines 1)) then Two else One
 
@@ -80,7 +80,7 @@ IsLonger limit line = limit < length line
 abbrev pub NoEndBefore : List (List ℕ) → ℕ → Type 0
 NoEndBefore lines k = (j : ℕ) → 1 < j → j < k → IsEndShape (line lines j) → ⊥
 
--- line k is a later one than the header, up to the end line
+-- line k comes after the header, and no later than the end line
 pub record IsBody (lines : List (List ℕ)) (k : ℕ) : Type 0 where
   pub later : 1 < k
   pub there : k ≤ length lines
@@ -92,13 +92,13 @@ pub record IsEnd (lines : List (List ℕ)) (k : ℕ) : Type 0 where
   pub whole : IsWhole lines k
   pub shape : IsEndShape (line lines k)
 
--- a header of a core whose number isn't below theirs, or of more than 64 cores
+-- a header of a core whose number isn't below the number of cores, or of more than 64 cores
 abbrev pub IsHeaderOutOfRange : List ℕ → Type 0
 IsHeaderOutOfRange line =
     (format : Format) × ((c : ℕ) × ((n : ℕ) × (line ≡ header_text (format_number format) c n) × (¬ ((c < n) × (n ≤ 64)))))
 
--- A record of either format: where a log of this one has no such records, its line is a bad line, and that
--- fault has the smaller number.
+-- A record of either format that is out of range. If a log of its format has no such records, the line is a bad line too, and that fault has the
+-- smaller number.
 abbrev pub IsRecordOutOfRange : List ℕ → Type 0
 IsRecordOutOfRange line = (r : Record) × (line ≡ record_text r) × (¬ (Fits r))
 
@@ -107,8 +107,7 @@ abbrev pub IsOtherHeader : ℕ → ℕ → List ℕ → Type 0
 IsOtherHeader core cores line =
     (format : Format) × ((c : ℕ) × ((n : ℕ) × (line ≡ header_text (format_number format) c n) × ((c ≢ core) ⊎ (n ≢ cores))))
 
--- The fault holds at line k. Where no earlier line has a fault, the lines between the header and line k
--- are records, k - 2 of them.
+-- The fault holds at line k. If no earlier line has a fault, the lines between the header and line k are records, k - 2 of them.
 abbrev pub FaultAt : ℕ → ℕ → List (List ℕ) → ℕ → FormatFault → Type 0
 FaultAt core cores lines k BadHeader =
     (k ≡ 1) × (IsLonger line_limit (line lines 1) ⊎ (IsWhole lines 1 × (¬ (IsSomeHeader (line lines 1)))))
@@ -140,7 +139,7 @@ number TrailingBytes = 25
 number Truncated = 26
 number WrongCore = 27
 
--- the fault of the least line, and there of the least number
+-- the fault at the first line that has one, and of those there the one with the least number
 pub record IsFirstFault (core cores : ℕ) (bytes : List ℕ) (k : ℕ) (f : FormatFault) : Type 0 where
   pub holds : FaultAt core cores (lines_of bytes) k f
   pub least : (j : ℕ) (g : FormatFault) → FaultAt core cores (lines_of bytes) j g → (k < j) ⊎ ((k ≡ j) × (number f ≤ number g))

@@ -12,7 +12,7 @@ use Rattle.log_file.specs.Log.{IsLonger, IsHeaderOutOfRange, IsRecordOutOfRange,
 abbrev pub IsOneLine : List ℕ → Type 0
 IsOneLine line = All (λ b. (b == 10) ≡ false) line
 
--- of a whole first line
+-- this fault holds of a whole first line
 abbrev pub HeaderHolds : ℕ → ℕ → List ℕ → FormatFault → Type 0
 HeaderHolds core cores line BadHeader = IsLonger line_limit line ⊎ (¬ (IsSomeHeader line))
 HeaderHolds core cores line OutOfRange = IsHeaderOutOfRange line
@@ -23,7 +23,7 @@ HeaderHolds core cores line CountDiffers = ⊥
 HeaderHolds core cores line TrailingBytes = ⊥
 HeaderHolds core cores line Truncated = ⊥
 
--- of a whole later line of a log of this format, up to the end line, after `count` records
+-- this fault holds of a whole later line of a log of this format, up to the end line, after `count` records
 abbrev pub BodyHolds : Format → ℕ → List ℕ → FormatFault → Type 0
 BodyHolds format count line BadLine = IsLonger (limit_of format) line ⊎ ((¬ (IsRecordShape format line)) × (¬ (IsEndShape line)))
 BodyHolds format count line OutOfRange = IsRecordOutOfRange line
@@ -43,11 +43,11 @@ LeastHeader core cores line f = Least (HeaderHolds core cores line) f
 abbrev pub LeastBody : Format → ℕ → List ℕ → FormatFault → Type 0
 LeastBody format count line f = Least (BodyHolds format count line) f
 
--- a whole first line is the header of this core of so many, which are in range
+-- a whole first line is the header of this core of this many, with both numbers in range
 abbrev pub HeaderIs : Format → ℕ → ℕ → List ℕ → Type 0
 HeaderIs format core cores line = (line ≡ header_text (format_number format) core cores) × (core < cores) × (cores ≤ 64)
 
--- the record that a whole later line is in a log of this format, where it has no fault; else it is the end line
+-- a whole later line of a log of this format has no fault: it is this record, or the end line if there is none
 abbrev pub BodyIs : Format → ℕ → List ℕ → Option Record → Type 0
 BodyIs format count line (Some r) = (line ≡ record_text r) × FitsIn format r × (count < operation_limit)
 BodyIs format count line None = line ≡ end_text count

@@ -1,4 +1,4 @@
--- The text of a fault of a set: the file and the line, where there are any, a number and a name.
+-- The text of a fault of a set: the file and the line, if there are any, a number and a name.
 use Rattle.std.specs.Prelude.{ℕ, List, ◌++◌, codes}
 use Rattle.std.specs.Fmt.{decimal}
 use Rattle.mem_op.specs.Names.{name_text}

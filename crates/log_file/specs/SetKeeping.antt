@@ -14,12 +14,12 @@ logs_to at (end ∷ ends) es = map (λ (e : Entry). e.logged) (take (end - at) e
 abbrev pub logs_in : Inside → List (List Record)
 logs_in set = logs_to 0 set.ends.items set.entries.items
 
--- where the entries of each log end, where those of the first begin at `at`
+-- where the entries of each log end, if those of the first begin at `at`
 abbrev pub ends_from : ℕ → List (List Record) → List ℕ
 ends_from at [] = []
 ends_from at (log ∷ logs) = (at + length log) ∷ ends_from (at + length log) logs
 
--- where the entries of log k begin: the logs before it have as many records
+-- where the entries of log k begin: this is how many records the logs before it have
 abbrev pub start_in : List (List Record) → ℕ → ℕ
 start_in logs zero = 0
 start_in [] (suc k) = 0

@@ -27,13 +27,13 @@ text_at texts k = slice_index_or texts k []
 abbrev pub SpellBefore : List (List ℕ) → ℕ → Type 0
 SpellBefore texts file = (k : ℕ) → k < file → (log : List Record) × Spells k (length texts) (text_at texts k) log
 
--- the fault of the least file that has one
+-- the first fault of the first file that has one
 pub record IsFirstOfSet (texts : List (List ℕ)) (file line : ℕ) (f : FormatFault) : Type 0 where
   pub there : file < length texts
   pub before : SpellBefore texts file
   pub first : IsFirstFault file (length texts) (text_at texts file) line f
 
--- the first fault of the set; at its file, lack of memory or a failed read may come instead
+-- the first fault of the set; lack of memory or a failed read may come instead, at a file with only faultless texts before it
 abbrev pub IsSetFault : List (List ℕ) → ℕ → LogFault → Type 0
 IsSetFault texts file (At line f) = IsFirstOfSet texts file line f
 IsSetFault texts file OutOfMemory = (file < length texts) × SpellBefore texts file
@@ -60,7 +60,7 @@ ReaderFailed {S} failed old new file =
 abbrev pub NoneFailed : {S : Type 0} → (S → ℕ) → List S → List S → Type 0
 NoneFailed failed old new = map failed new ≡ map failed old
 
--- a failed read is what is answered
+-- the answer is a failed read
 abbrev pub IsReadFault : {T : Type 0} → Result T SetFault → Type 0
 IsReadFault (Ok set) = ⊥
 IsReadFault (Err e) = e.fault ≡ Read

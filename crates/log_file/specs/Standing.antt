@@ -1,4 +1,4 @@
--- Where a reader of lines stands in a log. Clauses of private functions cite these.
+-- Where a reader of lines stands in a log. Private contracts cite these.
 use Rattle.std.specs.Prelude.{◌≡◌, ⊤, ℕ, ◌+◌, ◌<◌, ◌≤◌, ◌⊎◌, List, [], ◌∷◌, ◌++◌, length, take, Option, None, Some}
 use Rattle.mem_op.specs.Limits.{operation_limit}
 use Rattle.log_record.specs.declared.format.Format.{Format}
@@ -30,12 +30,12 @@ IsInRecords stage.Header = ⊥
 IsInRecords (stage.Records format) = ⊤
 IsInRecords (stage.Ended format) = ⊥
 
--- where a record is answered, its line was read last
+-- if a record is answered, its line was read last
 abbrev pub IsLastRead : Option Record → Stage → Type 0
 IsLastRead None at = ⊤
 IsLastRead (Some r) at = IsInRecords at
 
--- the end line was
+-- the end line was read last
 abbrev pub IsEnded : Stage → Type 0
 IsEnded stage.Header = ⊥
 IsEnded (stage.Records format) = ⊥
@@ -45,12 +45,12 @@ IsEnded (stage.Ended format) = ⊤
 pub record IsInRange (p : Progress) : Type 0 where
   pub count : p.count ≤ operation_limit
 
--- of the same log
+-- both are of the same log
 pub record SameLog (old new : Progress) : Type 0 where
   pub core : new.core ≡ old.core
   pub cores : new.cores ≡ old.cores
 
--- what a whole line is that isn't refused, and the progress after it
+-- what a whole line is if it isn't refused, and the progress after it
 abbrev pub BehindAt : Stage → Progress → List ℕ → Option Record → Progress → Type 0
 BehindAt stage.Header old line None new =
     (format : Format) × HeaderIs format old.core old.cores line × (new ≡ record old { stage = stage.Records format })
@@ -95,7 +95,7 @@ IsLineRefused s part fault = IsRefused s.progress (s.begun.items ++ part) fault 
 
 -- ---- all lines
 
--- the whole lines, after which the records are these
+-- the whole lines that were read, if these are the records in them
 abbrev pub whole_text : Stage → ℕ → ℕ → List Record → List ℕ
 whole_text stage.Header core cores records = []
 whole_text (stage.Records format) core cores records = text_of (begun format core cores records)
@@ -122,22 +122,22 @@ abbrev pub with_read : List Record → Option Record → List Record
 with_read records None = records
 with_read records (Some r) = records ++ r ∷ []
 
--- the reader took these bytes, and has read the records `after` from then on
+-- the reader took these bytes, and has then read the records `after`
 pub record Takes (old : LineReader) (records : List Record) (bytes : List ℕ) (new : LineReader) (after : List Record) : Type 0 where
   pub stands : Stands new after
   pub text : read_text new after ≡ read_text old records ++ bytes
 
--- the bytes that were read have a first fault with these after them, however they go on
+-- the bytes that were read, with these after them, have this first fault however they go on; lack of memory may come instead
 abbrev pub IsSettledWith : LineReader → List Record → List ℕ → LogFault → Type 0
 IsSettledWith s records bytes fault = IsSettled s.progress.core s.progress.cores (read_text s records ++ bytes) fault
 
--- what was taken of a piece: the next line, or all of it, a part of a line
+-- what was taken of a piece: the next line, or all of it, as part of a line
 abbrev pub TakesNext : LineReader → List Record → List ℕ → Option TakenLine → LineReader → Type 0
 TakesNext old records piece None new = Takes old records piece new records
 TakesNext old records piece (Some l) new =
     Takes old records (take l.taken piece) new (with_read records l.logged) × (new.begun.items ≡ []) × IsLastRead l.logged new.progress.stage
 
--- what was taken of a piece: the lines up to the next record's, or all of it, in which no record's line ends
+-- what was taken of a piece: the lines up to the next record's, or all of it, if no record's line ends in it
 abbrev pub TakesRecord : LineReader → List Record → List ℕ → (ℕ × Option Record) → LineReader → Type 0
 TakesRecord old records piece (taken, None) new =
     (taken ≡ length piece) × Takes old records piece new records

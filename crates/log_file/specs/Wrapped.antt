@@ -1,4 +1,4 @@
--- What clauses read of a std device in its wrapper.
+-- What contracts read from a std device in its wrapper.
 use Rattle.std.specs.Prelude.{ℕ}
 use Rattle.log_file.specs.declared.byte_source.FromRead.{FromRead}
 use Rattle.log_file.specs.declared.byte_sink.FromWrite.{FromWrite}

@@ -21,14 +21,14 @@ faulty_of (CoreOrder fall) = Some fall.fault.id
 faulty_of (Program departure) = option_map (λ e. e.id) departure.found
 faulty_of (Summed summary) = None
 
--- the operation that it is shown beside
+-- the operation that is shown beside it
 abbrev pub wanted_of : Explanation → Option Wanted
 wanted_of (Load found) = option_map (λ e. Right e.id) found.right
 wanted_of (CoreOrder fall) = Some (Before fall.before.id)
 wanted_of (Program departure) = None
 wanted_of (Summed summary) = None
 
--- the core whose program has something due, be it its end
+-- the core whose program has something due, which may be its end
 abbrev pub due_of : Explanation → Option ℕ
 due_of (Load found) = None
 due_of (CoreOrder fall) = None
@@ -41,7 +41,7 @@ abbrev pub pointed_by : Rule → WrongRead → Option Entry
 pointed_by OfValue found = found.same_word
 pointed_by rule found = found.culprit
 
--- operations with one more, where there is one and none of them has its id
+-- the operations with one more, if there is one and none of them has its id
 abbrev pub with_one : Option Entry → List Entry → List Entry
 with_one None es = es
 with_one (Some e) es = if is_some (of_id es e.id) then es else es ++ (e ∷ [])
@@ -50,8 +50,8 @@ with_one (Some e) es = if is_some (of_id es e.id) then es else es ++ (e ∷ [])
 abbrev pub AreByKey : List Entry → List Entry → Type 0
 AreByKey es rows = IsPermutation es rows × IsSorted entry_cmp rows
 
--- The operations: those that the explanation tells around the fault, with the store that a load should read, the record that it names and
--- the store that it is tied to; and with a Yes all.
+-- The operations that are shown: those that the explanation tells around the fault, with the store that a load should read, the record that it names
+-- and the store that it is tied to; or all, if a Yes tells all.
 abbrev pub HasRows : Explanation → List Entry → Type 0
 HasRows (Load found) rows =
     AreByKey (with_one (pointed_by found.rule found) (with_one found.named (with_one found.right found.rows.items))) rows

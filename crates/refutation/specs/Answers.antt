@@ -5,7 +5,7 @@ use Rattle.refutation.specs.declared.answer.Answer.{Answer}
 use Rattle.refutation.specs.declared.answer.Answer.TheVariants.{Order, Refutation, Undecided}
 use Rattle.refutation.specs.Refuting.{IsRefutation}
 
--- an order is one by which the trace is consistent, and with a refutation it isn't
+-- an order is one by which the trace is consistent; if there is a refutation, it isn't
 abbrev pub IsRight : List (List Operation) → Answer → Type 0
 IsRight cores (Order order) = IsSequentialOrder cores order.items
 IsRight cores (Refutation steps) = ¬ IsConsistent cores

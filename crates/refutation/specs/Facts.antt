@@ -5,8 +5,8 @@ use Rattle.refutation.specs.declared.step.Point.TheVariants.{Init, At}
 use Rattle.refutation.specs.declared.fact.Fact.{Fact}
 use Rattle.refutation.specs.declared.fact.Fact.TheVariants.{Before, Source}
 
--- A fact is that one point is before another (`Before`), or that the source of a read lies from the first to the last
--- point of a range (`Source`), which also says that the first is before the read.
+-- A fact says that one point is before another (`Before`), or that the source of a read lies in a range, from its first to its last point (`Source`).
+-- This also says that the first point is before the read.
 abbrev pub earlier_of : Fact → Point
 earlier_of (Before earlier later) = earlier
 earlier_of (Source read range) = range.first

@@ -48,13 +48,13 @@ name_text (States addresses set) = codes "states"
 unfoldable pub reason_text : ℕ → OpId → List ℕ → List ℕ
 reason_text source write path = numeral source ++ 32 ∷ (id_text write ++ (codes " :" ++ spaced numeral path))
 
--- of a state the indices and the words, and the limits of one that is dead
+-- the indices and the words of a state, and the limits of a dead one
 unfoldable pub state_text : State → List ℕ
 state_text (Open next words) = codes " |" ++ (spaced numeral next ++ (codes " :" ++ spaced numeral words))
 state_text (Dead next words limits) =
     codes " !" ++ (spaced numeral next ++ (codes " :" ++ (spaced numeral words ++ (codes " :" ++ spaced numeral limits))))
 
--- what its line goes on with
+-- what the line of a step has after its name
 unfoldable pub fields_text : Step → List ℕ
 fields_text (Read read ranges) = id_text read ++ (codes " :" ++ spaced range_text ranges)
 fields_text (FromRead source write path) = reason_text source write path

@@ -28,8 +28,8 @@ pub record MayGive (addr value : ℕ) (read id : OpId) (operation : Operation) :
   pub value_is : word_left operation ≡ value
   pub other : id ≢ read
 
--- all that may give a read its value lies in the ranges: each store or swap of the value at its address, other than
--- the read, and the initial 0 where the value is 0
+-- everything that may give a read its value lies in the ranges: each store or swap of the value at its address, other than the read, and the initial
+-- 0 if the value is 0
 pub record HasItsSourceIn (cores : List (List Operation)) (read : OpId) (ranges : List Range) : Type 0 where
   pub operation : Operation
   pub there : operation_at cores read ≡ Some operation
@@ -66,7 +66,7 @@ pub record IsWriteOrder (cores : List (List Operation)) (facts : List Fact) (sou
   pub leads : Leads facts (At write) path (At read)
   pub gives : given ≡ Before (At write) range.last ∷ []
 
--- a step is right where these facts are in force, and gives cases with these facts
+-- a step is right when these facts are in force, and gives a case for each of the facts `given`
 abbrev pub Gives : List (List Operation) → List Fact → Step → List Fact → Type 0
 Gives cores facts (Read read ranges) given = HasItsSourceIn cores read ranges × (given ≡ map (λ range. Source read range) ranges)
 Gives cores facts (FromRead source write path) given = IsFromRead cores facts source write path given

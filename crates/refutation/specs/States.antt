@@ -1,5 +1,5 @@
--- Closed sets of states. A state says how far each core is, and what memory holds at the addresses that are looked at. A
--- set that has the first state, is closed under every move, and has none in which all is done shows that no order exists.
+-- Closed sets of states. A state says how far each core is, and what memory holds at the addresses that are looked at. A set that has the first
+-- state, is closed under every move, and has no state in which all is done shows that no order exists.
 use Rattle.std.specs.Prelude.{◌≡◌, ◌≢◌, ℕ, ◌+◌, ◌<◌, ◌≤◌, nat_lt, nat_eq, Bool, true, false, ◌==◌, ◌&&◌, ◌||◌, if◌then◌else◌, IsTrue, List, [], ◌∷◌, Option, Some, None, is_none, map, drop, slice_get, slice_index, slice_set}
 use Rattle.std.specs.List.{list_all, prefix_len}
 use Rattle.std.specs.Option.{option_eq}
@@ -16,7 +16,7 @@ use Rattle.refutation.specs.Grammar.{is_same_point}
 
 -- ---- words
 
--- the word at an address, where it is looked at: each address that is looked at has its word
+-- the word at an address, if the address is looked at: each that is looked at has its word
 abbrev pub word_of : List ℕ → List ℕ → ℕ → Option ℕ
 word_of [] words addr = None
 word_of (a ∷ addresses) [] addr = None
@@ -40,7 +40,7 @@ passes (Some word) y = option_eq nat_eq (word_read y) (Some word) && (word_left 
 
 -- ---- states
 
--- of each core the index of its next operation, once all is performed that passes
+-- the index of each core's next operation, once every operation that passes has been performed
 abbrev pub settled : List ℕ → List ℕ → List (List Operation) → List ℕ → List ℕ
 settled addresses words [] next = next
 settled addresses words (operations ∷ cores) [] = []
@@ -63,7 +63,7 @@ pub record Has (states : List State) (next words : List ℕ) : Type 0 where
   pub next_is : next_of state ≡ next
   pub words_is : words_of state ≡ words
 
--- the set has it once all is performed that passes
+-- the set has this state, once every operation that passes has been performed
 abbrev pub IsIn : List (List Operation) → List ℕ → (List ℕ → List ℕ → Type 0) → List ℕ → List ℕ → Type 0
 IsIn cores addresses InSet next words = InSet (settled addresses words cores next) words
 
@@ -77,11 +77,11 @@ abbrev pub was_performed : List ℕ → Point → Bool
 was_performed next Init = true
 was_performed next (At id) = nat_lt id.index (slice_index next id.core)
 
--- a fact is of another operation, or what it says is before this one was performed
+-- the fact lets this operation come next: if it says that a point is before the operation, that point was performed
 abbrev pub allows : List ℕ → OpId → Fact → Bool
 allows next id fact = if is_same_point (later_of fact) (At id) then was_performed next (earlier_of fact) else true
 
--- some core has an operation left, and each that a core may perform next leads into the set
+-- some core has an operation left, and each operation that a core may perform next leads into the set
 pub record LeadsBack (cores : List (List Operation)) (facts : List Fact) (addresses : List ℕ) (InSet : List ℕ → List ℕ → Type 0) (next words : List ℕ) : Type 0 where
   pub left : (core : ℕ) × (y : Operation) × (operation_at cores (next_id next core) ≡ Some y)
   pub back : (core : ℕ) (y : Operation) → operation_at cores (next_id next core) ≡ Some y
@@ -96,7 +96,7 @@ NoneStores cores next limits addr word =
     (id : OpId) (z : Operation) → operation_at cores id ≡ Some z → slice_index next id.core ≤ id.index → id.index < slice_index limits id.core
     → IsTrue (is_store_to addr z) → word_left z ≢ word
 
--- a read that waits: another word is there, and none stores its word before the limits
+-- a read that waits: another word is there, and no operation stores its word before the limits
 pub record Waits (cores : List (List Operation)) (addresses next words limits : List ℕ) (y : Operation) : Type 0 where
   pub value : ℕ
   pub reads : word_read y ≡ Some value
@@ -105,8 +105,8 @@ pub record Waits (cores : List (List Operation)) (addresses next words limits : 
   pub other : value ≢ word
   pub none : NoneStores cores next limits (address_of y) value
 
--- Each core that has an operation at its limit didn't get past it, and waits there; some core has one. So none of these
--- operations can be the first.
+-- Each core that has an operation at its limit hasn't got past it, and that operation waits; some core has one. So none of these operations can be
+-- the first to be performed.
 pub record IsDead (cores : List (List Operation)) (addresses next words limits : List ℕ) : Type 0 where
   pub some : (core : ℕ) × (y : Operation) × (operation_at cores (next_id limits core) ≡ Some y)
   pub each : (core : ℕ) (y : Operation) → operation_at cores (next_id limits core) ≡ Some y
@@ -114,7 +114,7 @@ pub record IsDead (cores : List (List Operation)) (addresses next words limits :
 
 -- ---- closed sets
 
--- from a state that is open each move leads back into the set; one that is dead leads to no end
+-- each move from an open state leads back into the set; a dead state leads to no end
 abbrev pub IsRightState : List (List Operation) → List Fact → List ℕ → (List ℕ → List ℕ → Type 0) → State → Type 0
 IsRightState cores facts addresses InSet (Open next words) = LeadsBack cores facts addresses InSet next words
 IsRightState cores facts addresses InSet (Dead next words limits) = IsDead cores addresses next words limits

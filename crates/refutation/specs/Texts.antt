@@ -20,14 +20,14 @@ StepInFront step bytes rest = ItemInFront step_text Fits step bytes rest
 abbrev pub NoStepInFront : List ℕ → Type 0
 NoStepInFront bytes = NoItemInFront step_text Fits bytes
 
--- the bytes begin with the header and the lines of these steps, and what comes after them with no step's line
+-- the bytes are the header, the lines of these steps and then the rest, which doesn't begin with a step's line
 pub record Begins (bytes : List ℕ) (steps : List Step) (rest : List ℕ) : Type 0 where
   pub each_fits : EachFits steps
   pub text : bytes ≡ header_line ++ (steps_text steps ++ rest)
   pub none_in_front : NoStepInFront rest
 
--- Where the lines of so many steps should be followed by the `end` line alone, this line of the text isn't as it
--- should be: that one, or the line after it.
+-- The `end` line alone should come after the lines of this many steps, and this line of the text isn't as it should be: the one that should be the
+-- `end` line, or the one after it.
 abbrev pub EndsBadly : List ℕ → ℕ → ℕ → Type 0
 EndsBadly rest count line =
     ((line ≡ count + 2) × ((more : List ℕ) → rest ≢ end_line count ++ more))
@@ -47,8 +47,8 @@ abbrev pub IsFault : List ℕ → CertificateFault → Type 0
 IsFault bytes (BadCertificate line) = IsFirstMisshapen bytes line
 IsFault bytes OutOfMemory = Unit {0}
 
--- This line is the first that isn't of the text's shape, or whose step isn't right or comes after the last case was
--- closed, or it is where the `end` line should be, and cases are left.
+-- This line is the first that isn't of the text's shape, or whose step isn't right or comes after the last case was closed; or it is where the `end`
+-- line should be, but cases are left.
 abbrev pub IsFirstBad : List (List Operation) → List ℕ → ℕ → Type 0
 IsFirstBad cores bytes line =
     LacksHeader bytes line

@@ -1,4 +1,4 @@
--- The text of a fault: the line where there is one, a number and a name.
+-- The text of a fault: the line if there is one, a number and a name.
 use Rattle.std.specs.Prelude.{ℕ, List, ◌++◌, codes}
 use Rattle.std.specs.Fmt.{decimal}
 use Rattle.mem_op.specs.Names.{name_text}

@@ -29,7 +29,7 @@ fields_of (Finish core) = codes "finish" ∷ numeral core ∷ []
 unfoldable pub command_text : Command → List ℕ
 command_text command = join_with_byte 32 (fields_of command)
 
--- the core of a command is below their number and below 64, and its numbers are in range
+-- the core of a command is below the number of cores and below 64, and the command's other numbers are in range
 abbrev pub Fits : ℕ → Command → Type 0
 Fits cores (Turn core) = core < min cores 64
 Fits cores (Serve core) = core < min cores 64

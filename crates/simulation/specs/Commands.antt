@@ -18,7 +18,7 @@ use Rattle.simulation.specs.declared.fault.SimulationFault.TheVariants.{Core, Sl
 
 -- ---- a command
 
--- the event leads from p to q, with whatever outcome
+-- the event leads from p to q, with any outcome
 abbrev pub EventLeadsAnyhow : CoreParts → Event → CoreParts → Type 0
 EventLeadsAnyhow p e q = (o : Outcome) × EventLeads p e o q
 
@@ -42,7 +42,7 @@ CommandLeads p (command.Finish c) q = IsFinished c p q
 
 -- ---- a command that is refused
 
--- a core's fault is this
+-- the fault is that of a core, and this holds of it
 abbrev pub IsOfCore : (RoundFault → Type 0) → SimulationFault → Type 0
 IsOfCore IsFault fault = (r : RoundFault) × (fault ≡ Core r) × IsFault r
 
@@ -58,7 +58,7 @@ abbrev pub IsRefusedSpill : CoreParts → ℕ → SimulationFault → Type 0
 IsRefusedSpill p a fault =
     (cause : SliceFault) × (fault ≡ Slice (slice_number p.config a) cause) × MayRefuse (step_outcome p (event.Spill a)) (core_fault.Slice cause)
 
--- the command led from p to q, where it is refused so
+-- the command led from p to q, and there it is refused with this fault
 abbrev pub IsRefusedCommand : CoreParts → Command → CoreParts → SimulationFault → Type 0
 IsRefusedCommand p (command.Turn c) q fault = IsRefusedAt p (event.Turn c) c q fault
 IsRefusedCommand p (command.Serve c) q fault = IsRefusedAt p (event.Serve c) c q fault

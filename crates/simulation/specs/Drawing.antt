@@ -25,7 +25,7 @@ left_below w (suc c) = left_below w c ++ (if has_next w c then c ∷ [] else [])
 unfoldable pub cores_left : World → List ℕ
 cores_left w = left_below w 64
 
--- the cores but this
+-- the other cores
 abbrev pub is_other : ℕ → ℕ → Bool
 is_other core other = not (nat_eq other core)
 

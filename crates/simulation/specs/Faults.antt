@@ -10,7 +10,7 @@ use Rattle.tardis_core.specs.RoundFaults.{cause_text}
 use Rattle.simulation.specs.declared.fault.SimulationFault.{SimulationFault}
 use Rattle.simulation.specs.declared.fault.SimulationFault.TheVariants.{Core, Slice, OutOfMemory}
 
--- lack of memory for a spill isn't a slice's
+-- lack of memory for a spill isn't a fault of the slice
 abbrev pub slice_text : ℕ → SliceFault → List ℕ
 slice_text number slice_fault.OutOfMemory = name_text named.OutOfMemory
 slice_text number fault = codes "slice " ++ (decimal number ++ (codes ": " ++ slice.fault_text fault))

@@ -9,7 +9,7 @@ use Rattle.simulation.specs.Drawing.{IsDrawFault, IsDrawnOut}
 use Rattle.simulation.specs.Finishing.{FinishesAll, IsUnfinished}
 use Rattle.simulation.specs.declared.fault.SimulationFault.{SimulationFault}
 
--- after the schedule all cores come to their ends: by the draws of a seed, or without one in their order
+-- after the schedule all cores come to their ends: by the draws of a seed, or in their order if there is no seed
 abbrev pub IsEnded : Option ℕ → CoreParts → CoreParts → Type 0
 IsEnded None p q = FinishesAll p q
 IsEnded (Some seed) p q = IsDrawnOut seed p q

@@ -3,7 +3,7 @@ use Rattle.std.specs.Prelude.{◌==◌, ◌≤◌, if◌then◌else◌, List, ma
 use Rattle.mem_op.specs.Consistency.{Operation, Loaded, Stored, Swapped}
 use Rattle.tardis_c.specs.declared.tardis_access.TardisAccess.{TardisAccess}
 
--- its kind is one
+-- its kind is one of the three
 abbrev pub IsAccess : TardisAccess → Type 0
 IsAccess access = access.kind ≤ 2
 

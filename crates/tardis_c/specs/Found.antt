@@ -21,7 +21,7 @@ Shows cores (Order text) = (order : List OpId) × IsSequentialOrder cores order 
 Shows cores (Refutation text) = (steps : List Step) × IsRefutation cores steps × (string_bytes text ≡ refutation_text steps)
 Shows cores Undecided = Unit {0}
 
--- what was found of the operations, or why they are none
+-- what was found of the operations, or why cores can't have performed them
 abbrev pub IsFindingOf : List (List TardisAccess) → Result Finding OperationsFault → Type 0
 IsFindingOf parts (Ok finding) = All (AreOperations IsAccess) parts × Shows (trace_of parts) finding
 IsFindingOf parts (Err fault) = IsFirstFault IsAccess parts fault
@@ -37,7 +37,7 @@ finding_status (Err (OutOfRange core index)) = 2
 abbrev pub nothing_found : TardisFinding
 nothing_found = record { length = 0; core = 0; index = 0; number = 0 }
 
--- after a refusal of the ends nothing is told, and after one of the number of cores 6 alone
+-- if the ends are refused, which is status 5, nothing is told; if the number of cores is, which is status 3, only number 6 is
 abbrev pub IsFoundOfEnds : ℕ → TardisFinding → Type 0
 IsFoundOfEnds status told = (status ≡ 5 → told ≡ nothing_found) × (status ≡ 3 → told ≡ record nothing_found { number = 6 })
 
@@ -49,18 +49,18 @@ finding_told (Err OutOfMemory) = record nothing_found { number = 10 }
 finding_told (Err (TooMany core)) = record nothing_found { core = core; index = 1048576; number = 23 }
 finding_told (Err (OutOfRange core index)) = record nothing_found { core = core; index = index; number = 22 }
 
--- the text that a buffer is to have
+-- the text that the buffer should have
 abbrev pub text_of : Result Finding OperationsFault → List ℕ
 text_of (Ok (Order text)) = string_bytes text
 text_of (Ok (Refutation text)) = string_bytes text
 text_of (Ok Undecided) = []
 text_of (Err fault) = []
 
--- the buffer with a text at its front, where it has room for it, and else as it is
+-- the buffer with a text at its front if it has room for it, and else as it is
 abbrev pub with_text : List ℕ → List ℕ → List ℕ
 with_text text buffer = if nat_le (length text) (length buffer) then text ++ drop (length text) buffer else buffer
 
--- the status and the numbers tell what was found of these operations, and the buffer has its text where it has room for it
+-- the status and the numbers tell what was found of these operations, and the buffer has its text if it has room for it
 pub record AreFoundOf (parts : List (List TardisAccess)) (old new : List ℕ) (status : ℕ) (told : TardisFinding) : Type 0 where
   pub finding : Result Finding OperationsFault
   pub of_operations : IsFindingOf parts finding

@@ -20,7 +20,7 @@ act_of op = if op.kind == 0 then Load (source_of op) else if op.kind == 1 then S
 abbrev pub record_of : TardisOperation → Record
 record_of op = record { value = op.value; ts = op.ts; rank = op.rank; addr = op.addr; act = act_of op }
 
--- its kind is one, and the numbers of its record are in range
+-- its kind is one of the three, and the numbers of its record are in range
 abbrev pub IsOperation : TardisOperation → Type 0
 IsOperation op = (op.kind ≤ 2) × FitsIn Two (record_of op)
 

@@ -1,4 +1,4 @@
--- The logs that lie behind each other in a buffer of bytes or of operations.
+-- The logs that lie one after the other in a buffer of bytes or of operations.
 use Rattle.std.specs.Prelude.{◌≡◌, ℕ, ◌≤◌, List, [], ◌∷◌, length, slice_range}
 
 -- from here on no end is less than the one before it, and the last is the length
@@ -6,7 +6,7 @@ abbrev pub AreEndsFrom : ℕ → ℕ → List ℕ → Type 0
 AreEndsFrom from many [] = from ≡ many
 AreEndsFrom from many (end ∷ ends) = (from ≤ end) × AreEndsFrom end many ends
 
--- the logs that end there fill the buffer
+-- logs with these ends fill the buffer
 abbrev pub AreEnds : {X : Type 0} → List X → List ℕ → Type 0
 AreEnds buffer ends = AreEndsFrom 0 (length buffer) ends
 

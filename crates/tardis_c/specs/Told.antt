@@ -53,19 +53,19 @@ told_of (Err (BadConfig count)) = record nothing { number = 6 }
 told_of (Err OutOfMemory) = record nothing { number = 10 }
 told_of (Err (Read file)) = record nothing { file = file; number = 28 }
 
--- the status and the numbers tell an answer to these texts, which names no failed read
+-- the status and the numbers tell an answer to these texts, and it isn't a failed read
 abbrev pub IsToldTo : List (List ℕ) → ℕ → TardisVerdict → Type 0
 IsToldTo texts status told =
     (answer : Result Verdict JudgeFault) × ((file : ℕ) → ¬ IsErrOf answer (Read file)) × IsAnswerTo texts answer × (status ≡ status_of answer)
     × (told ≡ told_of answer)
 
--- after a refusal of the ends nothing is told, and after one of the number of logs 6 alone
+-- if the ends are refused, which is status 5, nothing is told; if the number of logs is, which is status 3, only number 6 is
 abbrev pub IsToldOfEnds : ℕ → TardisVerdict → Type 0
 IsToldOfEnds status told = (status ≡ 5 → told ≡ nothing) × (status ≡ 3 → told ≡ record nothing { number = 6 })
 
 -- ---- operations in numbers
 
--- the verdict on the logs of the operations, or why they are none
+-- the verdict on the logs of the operations, or why cores can't have performed them
 abbrev pub IsAnswerOf : List (List TardisOperation) → Result Verdict OperationsFault → Type 0
 IsAnswerOf parts (Ok verdict) = All (AreOperations IsOperation) parts × (verdict ≡ verdict_of (logs_of parts))
 IsAnswerOf parts (Err fault) = IsFirstFault IsOperation parts fault

@@ -2,11 +2,11 @@
 use Rattle.std.specs.Prelude.{ℕ, nat_lt, if◌then◌else◌, List, Option, Some, None, is_some}
 use Rattle.decimal_text.specs.Reading.{◌>>=◌, after, field_at, last_number}
 
--- the number, where it is less than this
+-- the number, if it is less than this
 abbrev pub below : ℕ → ℕ → Option ℕ
 below limit n = if nat_lt n limit then Some n else None
 
--- the number, where it is less than this, and the bytes after it
+-- the number, if it is less than this, and the bytes after it
 abbrev pub front_below : ℕ → ℕ × List ℕ → Option (ℕ × List ℕ)
 front_below limit x = if nat_lt x.0 limit then Some x else None
 
@@ -18,6 +18,6 @@ field_below limit bytes = field_at 32 bytes >>= front_below limit
 unfoldable pub last_below : ℕ → List ℕ → Option ℕ
 last_below limit bytes = last_number bytes >>= below limit
 
--- what a reading of the fields makes of a line that begins with this name, else what another reading makes of it
+-- what a reading of the fields makes of a line that begins with this name; of any other line, what another reading makes of it
 abbrev pub named : {A : Type 0} → List ℕ → (List ℕ → Option A) → List ℕ → Option A → Option A
 named name fields line other = if is_some (after name line) then (after name line >>= fields) else other

@@ -10,7 +10,7 @@ IsOneLine line = All (λ b. (b == 10) ≡ false) line
 abbrev pub text_of : List (List ℕ) → List ℕ
 text_of lines = flat_map (λ line. line ++ 10 ∷ []) lines
 
--- A grammar is told by the lists of lines that are its texts.
+-- A grammar says which lists of lines are its texts.
 
 -- the bytes are a text
 abbrev pub IsText : (List (List ℕ) → Type 0) → List ℕ → Type 0

@@ -12,7 +12,7 @@ abbrev pub ends_word : List ℕ → Bool
 ends_word [] = true
 ends_word (b ∷ bs) = b == 32
 
--- what was read, where the word ends
+-- what was read, if the word ends there
 abbrev pub at_end : {A : Type 0} → A → List ℕ → Option (A × List ℕ)
 at_end x rest = if ends_word rest then Some (x, rest) else None
 

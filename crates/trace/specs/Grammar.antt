@@ -14,17 +14,17 @@ AreBlanks bytes = AllByRecursion (λ b. is_blank b ≡ true) bytes
 
 -- ---- numbers
 
--- what a byte is as a digit: 0..9, or 10..15 for a letter; 16 where it is none
+-- what a byte is as a digit: 0..9, or 10..15 for a letter; 16 if it is none
 unfoldable pub digit_value : ℕ → ℕ
 digit_value b =
     if nat_le 48 b && nat_le b 57 then b - 48
     else (if nat_le 65 b && nat_le b 70 then b - 55 else (if nat_le 97 b && nat_le b 102 then b - 87 else 16))
 
--- the number that digits go on to from this one
+-- the number that comes of writing digits after this one
 abbrev pub value_on : ℕ → ℕ → List ℕ → ℕ
 value_on base n digits = fold (λ m b. m * base + digit_value b) n digits
 
--- digits of a base, of which there is one at least, and their value
+-- one digit or more of a base, and their value
 pub record AreDigits (base n : ℕ) (text : List ℕ) : Type 0 where
   pub some : text ≢ []
   pub digits : AllByRecursion (λ b. digit_value b < base) text
@@ -50,12 +50,12 @@ pub data Part : Type 0 where
   Mark : (text : List ℕ) → Part
   Number : (value : ℕ) → Part
 
--- the text of a part, where this comes after it: a number has 64 bits, and goes on as far as digits and letters do
+-- the text of a part, if the rest comes after it: a number has 64 bits, and goes on as far as digits and letters do
 abbrev pub IsPartText : Part → List ℕ → List ℕ → Type 0
 IsPartText (Mark mark) text rest = text ≡ mark
 IsPartText (Number n) text rest = (n < 2 ^ 64) × IsNumeral n text × NoneGoesOn rest
 
--- the bytes begin with a part, before which blanks may stand
+-- the bytes begin with a part, perhaps with blanks before it
 pub record IsAhead (part : Part) (bytes rest : List ℕ) : Type 0 where
   pub blanks : List ℕ
   pub blank : AreBlanks blanks
@@ -93,7 +93,7 @@ operation_parts (Swapped addr read stored) =
 abbrev pub of_core : ℕ → List Part → List Part
 of_core core parts = Number core ∷ Mark (codes ":") ∷ parts
 
--- a time, where there is one
+-- a time, if there is one
 abbrev pub time_parts : Option ℕ → List Part → List Part
 time_parts None parts = parts
 time_parts (Some time) parts = Number time ∷ parts

@@ -11,7 +11,7 @@ pub record IsOfSize (cores : List (List Operation)) : Type 0 where
   pub few : length cores ≤ 64
   pub short : (core : ℕ) → length (own_operations cores core) ≤ operation_limit
 
--- one more operation of a core, which comes after its others; the cores before it are there then too
+-- one more operation of a core, after its others; the cores up to this one are added if they aren't there
 abbrev pub with_operation : ℕ → Operation → List (List Operation) → List (List Operation)
 with_operation zero operation [] = (operation ∷ []) ∷ []
 with_operation (suc core) operation [] = [] ∷ with_operation core operation []

@@ -21,8 +21,8 @@ with_line cores (Performs core operation) = with_operation core operation cores
 abbrev pub trace_of : List TraceLine → List (List Operation)
 trace_of said = fold with_line [] said
 
--- The bytes are the text of a trace: each of their lines says something, and the trace is of that. A carriage return
--- before a line feed is no part of a line, and the last line may lack its line feed.
+-- The bytes are the text of a trace: each of their lines says something, and this is the trace of what they say. It has no more cores and operations
+-- than a trace may have. A carriage return before a line feed is no part of a line, and the last line may lack its line feed.
 pub record SpellsTrace (bytes : List ℕ) (cores : List (List Operation)) : Type 0 where
   pub said : List TraceLine
   pub says : AllZip IsLine (lines bytes) said

@@ -15,7 +15,7 @@ use Rattle.trace_replay.specs.declared.fault.ReplayFault.TheVariants.{BadTraceLi
 use Rattle.trace_replay.specs.declared.verdict.ReplayVerdict.{ReplayVerdict}
 use Rattle.trace_replay.specs.declared.verdict.ReplayVerdict.TheVariants.{Yes, No}
 
--- the order in which lines that said these stand is a sequential order of their trace
+-- lines that said these are in a sequential order of their trace
 abbrev pub StandInOrder : List TraceLine → Type 0
 StandInOrder said = IsSequentialOrder (trace_of said) (order_of (steps_of said))
 
@@ -26,7 +26,7 @@ pub record IsReplayed (bytes : List ℕ) (count : ℕ) : Type 0 where
   pub order : StandInOrder said
   pub count_is : count ≡ counted (length (steps_of said))
 
--- the lines before one say something and stand in order, and this holds of it after what they said
+-- the lines before some line say something and stand in order, and this holds of that line after what they said
 pub record StopsAt (bytes : List ℕ) (Here : List TraceLine → List ℕ → Type 0) : Type 0 where
   pub earlier : List (List ℕ)
   pub line : List ℕ
@@ -37,7 +37,7 @@ pub record StopsAt (bytes : List ℕ) (Here : List TraceLine → List ℕ → Ty
   pub order : StandInOrder before
   pub here : Here before line
 
--- a line after which they don't stand in order, and what is told of its operation
+-- with this line they no longer stand in order, and this is what is told about its operation
 abbrev pub IsWrongAt : WrongParts → List TraceLine → List ℕ → Type 0
 IsWrongAt wrong before line =
     (core : ℕ) × (operation : Operation) × IsLine line (Performs core operation) × IsWrong (steps_of before) core operation wrong

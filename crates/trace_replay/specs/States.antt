@@ -1,4 +1,4 @@
--- What a state of a replay stands for, and what is told of a load that may not come next.
+-- What a state of a replay stands for, and what is told about a load that can't come next.
 use Rattle.std.specs.Prelude.{◌≡◌, ◌≢◌, ℕ, ◌-◌, ◌<◌, ◌^◌, min, List, [], ◌∷◌, ◌++◌, Option, Some, length, count_by, find, reverse, slice_index}
 use Rattle.std.specs.Option.{option_map}
 use Rattle.mem_op.specs.Consistency.{Operation, is_store_to, word_left}
@@ -10,7 +10,7 @@ use Rattle.trace_replay.specs.Parts.{WrongParts}
 use Rattle.trace_replay.specs.Steps.{Step, is_of_core, next_step, AreCountedAfter, AreInOrder}
 use Rattle.trace_replay.specs.declared.replayer.Replayer.{Replayer}
 
--- as far as 64 bits count
+-- a number, as far as 64 bits count
 abbrev pub counted : ℕ → ℕ
 counted n = min n (2 ^ 64 - 1)
 
@@ -25,7 +25,7 @@ stored_by step = (word_left step.operation, counted_id step.id)
 abbrev pub last_store : ℕ → List Step → Option (ℕ × IdParts)
 last_store addr steps = option_map stored_by (find (λ step. is_store_to addr step.operation) (reverse steps))
 
--- the steps were performed, in a sequential order of theirs, and the memory and the numbers are those after them
+-- the steps were performed in a sequential order, and this is the memory and these are the numbers after them
 pub record StandsFor (replayer : Replayer) (steps : List Step) : Type 0 where
   pub counted_ids : AreCountedAfter [] steps
   pub order : AreInOrder steps
@@ -34,7 +34,7 @@ pub record StandsFor (replayer : Replayer) (steps : List Step) : Type 0 where
   pub memory : (addr : ℕ) → last_at replayer.memory addr ≡ last_store addr steps
   pub count : replayer.count ≡ counted (length steps)
 
--- after these steps an operation of a core isn't in a sequential order: what is told of it
+-- with this operation of a core after them, the steps aren't in a sequential order: what is told about the operation
 pub record IsWrong (steps : List Step) (core : ℕ) (operation : Operation) (wrong : WrongParts) : Type 0 where
   pub isnt : ¬ AreInOrder (steps ++ next_step steps core operation ∷ [])
   pub id : wrong.id ≡ counted_id (next_step steps core operation).id

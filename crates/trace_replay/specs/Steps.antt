@@ -21,7 +21,7 @@ next_step before core operation = record {
   operation = operation;
 }
 
--- with each of these, after those before them, its index is that number
+-- the index of each of these steps is that number, with the steps of `before` before them all
 abbrev pub AreCountedAfter : List Step → List Step → Type 0
 AreCountedAfter before [] = ⊤
 AreCountedAfter before (step ∷ later) =
@@ -33,7 +33,7 @@ operations steps = map (λ step. step.operation) steps
 abbrev pub order_of : List Step → List OpId
 order_of steps = map (λ step. step.id) steps
 
--- the operations of each core
+-- the operations of each core, with that of one more step
 abbrev pub with_step : List (List Operation) → Step → List (List Operation)
 with_step cores step = with_operation step.id.core step.operation cores
 

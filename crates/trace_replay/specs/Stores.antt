@@ -10,6 +10,6 @@ use Rattle.trace_replay.specs.declared.stores_by_word.StoresByWord.{StoresByWord
 abbrev pub place_cmp : ℕ × ℕ → ℕ × ℕ → Ordering
 place_cmp x y = ordering_then (nat_cmp x.0 y.0) (nat_cmp x.1 y.1)
 
--- the store that is kept of a word to an address
+-- the store of this word to this address that is kept
 abbrev pub kept_store : StoresByWord → ℕ → ℕ → Option IdParts
 kept_store kept addr word = get place_cmp kept.stores (addr, word)

@@ -1,4 +1,4 @@
--- The options that take a number, in whichever subcommand.
+-- The options that take a number, in any subcommand.
 use Rattle.std.specs.Prelude.{◌≡◌, IsTrue, Bool, List, [], ◌∷◌, Some, codes}
 use Rattle.std.specs.List.{list_any}
 use Rattle.std.specs.Str.{bytes_eq}

@@ -19,7 +19,7 @@ id_line_at bytes =
 abbrev pub IsOneMore : List ℕ → List ℕ → List OpId → List OpId → Type 0
 IsOneMore bytes rest ids more = (id : OpId) × IdFits id × (bytes ≡ id_line id ++ rest) × (more ≡ ids ++ id ∷ [])
 
--- how the text goes on after the lines of so many ids
+-- how the text goes on after the lines of this many ids
 abbrev pub TellsEnd : List ℕ → ℕ → Option ℕ → Type 0
 TellsEnd rest count None = rest ≡ end_line count
 TellsEnd rest count (Some line) =

@@ -12,13 +12,13 @@ use Rattle.commands.specs.declared.place.Output.TheVariants as output
 use Rattle.commands.specs.declared.refusal.Refusal.{Refusal}
 use Rattle.commands.specs.declared.refusal.Refusal.TheVariants.{Undecided, OutOfMemory, Unwritten}
 
--- it gave up, or memory ran out
+-- the search gave up, or memory ran out
 abbrev pub IsGivenUp : Refusal → Type 0
 IsGivenUp Undecided = ⊤
 IsGivenUp OutOfMemory = ⊤
 IsGivenUp fault = ⊥
 
--- the put failed, of which this fault tells, or memory ran out before it
+-- the put failed and the fault is `unwritten`, or memory ran out before the put
 abbrev pub IsUnputAt : Refusal → Files → Files → Option (Bor (List ℕ)) → Refusal → Type 0
 IsUnputAt unwritten old new name OutOfMemory = ⊤
 IsUnputAt unwritten old new name fault = (fault ≡ unwritten) × FailsPutAt old new name

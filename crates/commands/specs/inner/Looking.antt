@@ -1,4 +1,4 @@
--- What a look at a certificate's text answers, and why there is none.
+-- What a look at a certificate's text answers, and why there is no text.
 use Rattle.std.specs.Prelude.{⊤, ℕ, List, Result, Ok, Err}
 use Rattle.command_line.specs.declared.request.TraceFiles.{TraceFiles}
 use Rattle.mem_op.specs.Consistency.{Operation}

@@ -1,4 +1,4 @@
--- What a request came to, before anything is told of it on standard error.
+-- What a request came to, before standard error tells anything about it.
 use Rattle.std.specs.Prelude.{◌≡◌, ⊤, ℕ, List, Result, IfErr, IfOk}
 use Rattle.host_files.specs.Files.{Files, KeepsFiles}
 use Rattle.command_line.specs.Files.{IsApart}
@@ -13,7 +13,7 @@ use Rattle.commands.specs.declared.place.Output.TheVariants as output
 use Rattle.commands.specs.declared.refusal.Refusal.{Refusal}
 use Rattle.commands.specs.declared.refusal.Refusal.TheVariants.{OutOfMemory, Unwritten}
 
--- what holds where the answer has status 0
+-- what holds if the answer has status 0
 pub record IsRight (old new : Files) (out out' : Sink) (asked : Request) : Type 0 where
   pub sound : AreConsistent old.told asked
   pub flat : RunFlat old.told asked
@@ -21,7 +21,7 @@ pub record IsRight (old new : Files) (out out' : Sink) (asked : Request) : Type 
   pub upgraded : AreUpgraded old new asked
   pub yes : IsApart asked → LeaveYes old.told new.told asked
 
--- The request came to this answer or refusal, and left the folder and standard output so.
+-- The request came to this answer or refusal, and left the folder and standard output like this.
 pub record Came (old new : Files) (Unread : List ℕ → Type 0) (out out' : Sink) (asked : Request) (came : Result CommandAnswer Refusal) : Type 0 where
   pub files : KeepsFiles old.told new.told (IsPutName asked)
   pub right : IfOk came (λ answer. answer_status answer ≡ 0 → IsRight old new out out' asked)
@@ -35,7 +35,7 @@ IsUnprinted (Unwritten output.Standard) = ⊤
 IsUnprinted OutOfMemory = ⊤
 IsUnprinted other = ⊥
 
--- more is told of a refusal of what was asked, below its line
+-- a refusal of this request is told with more lines below its first
 abbrev pub IsToldMore : Request → Type 0
 IsToldMore (Explain asked) = ⊤
 IsToldMore (Inspect asked) = ⊤

@@ -9,7 +9,7 @@ use Rattle.mem_op.specs.Limits.{operation_limit}
 use Rattle.verdict.specs.declared.basis.Basis.{Basis}
 use Rattle.verdict.specs.declared.basis.Basis.TheVariants.{Logs, Index}
 
--- log c, of no records where there is no such log
+-- log c; it has no records if there is no such log
 abbrev pub read_log_of : List (Vec Record) → ℕ → List Record
 read_log_of logs c = option_map_or (λ log. log.items) (slice_get logs c) []
 
@@ -22,7 +22,7 @@ abbrev pub HoldsRecords : List (List Record) → Basis → Type 0
 HoldsRecords logs (Logs set) = set ≡ logs
 HoldsRecords logs (Index index) = IsPermutation (entries logs) index
 
--- these are the logs of the set, of so many cores, that a verdict stands on
+-- a verdict stands on these logs, of a set of this many cores
 pub record AreLogsOf (logs : List (List Record)) (basis : Basis) (cores : ℕ) : Type 0 where
   pub many : length logs ≡ cores
   pub few : cores ≤ 64

@@ -8,6 +8,6 @@ use Rattle.verdict.specs.CoreFaultsOf.{core_faults}
 use Rattle.verdict.specs.FaultParts.{FaultParts}
 use Rattle.verdict.specs.Faults.{from_core}
 
--- a core fault of the set, against the programs of its cores where they are given
+-- a core fault of the set, against the programs of its cores if they are given
 abbrev pub IsCoreFault : Option (List (List Instruction)) → List (List Record) → FaultParts → Type 0
 IsCoreFault programs logs fault = (found : RuleFault) × In found (core_faults programs logs) × (fault ≡ from_core found)

@@ -1,4 +1,4 @@
--- What the judge answers to the logs of a run, and a verdict of No as it is told. Private contracts cite these.
+-- What the judge answers to the logs of a run, and a No as the cause why a run has no outcome that counts. Private contracts cite these.
 use Rattle.std.specs.Prelude.{◌≡◌, List, Result, Ok, Err}
 use Rattle.log_record.specs.declared.record.Record.{Record}
 use Rattle.core_program.specs.declared.instruction.Instruction.{Instruction}
@@ -15,7 +15,7 @@ abbrev pub IsVerdictOn : List (List Instruction) → List (List Record) → Resu
 IsVerdictOn programs logs (Ok verdict) = run_verdict_of programs logs ≡ verdict
 IsVerdictOn programs logs (Err why) = why ≡ fault.OutOfMemory
 
--- the cause is its fault
+-- the cause is the fault of this No
 abbrev pub IsNo : Verdict → RunCause → Type 0
 IsNo (Yes count) why = ⊥
 IsNo (No fault) why = why ≡ cause.No fault

@@ -9,7 +9,7 @@ use Rattle.litmus.specs.Collecting.{count_of}
 abbrev pub counted : List (Vec ℕ × ℕ) → List (List ℕ × ℕ)
 counted entries = map (λ entry. (entry.0.items, entry.1)) entries
 
--- the count of an outcome, 0 where it isn't there
+-- the count of an outcome, 0 if it isn't there
 abbrev pub count_in : List ℕ → List (List ℕ × ℕ) → ℕ
 count_in values [] = 0
 count_in values (entry ∷ entries) = if is_outcome values entry.0 then entry.1 else count_in values entries

@@ -1,4 +1,4 @@
--- What the readers of the lines after the sections have found. Clauses of private functions cite these.
+-- What the readers of the lines after the sections have found. Private contracts cite these.
 use Rattle.std.specs.Prelude.{◌≡◌, ◌≢◌, ℕ, ◌+◌, ◌<◌, ◌≤◌, List, [], ◌∷◌, ◌++◌, length, map, drop, codes}
 use Rattle.std.specs.Global.{Vec}
 use Rattle.core_program.specs.Grammar.{end_text}
@@ -14,7 +14,7 @@ use Rattle.text_lines.specs.Lines.{text_of}
 abbrev pub ShowInFront : ℕ → List ShownParts → List ℕ → List ℕ → Type 0
 ShowInFront cores shown bytes rest = ItemInFront show_text (AreShown cores) shown bytes rest
 
--- they don't, nor with the line of an outcome
+-- the bytes don't begin with such a line; nor, in the next two, with that of a forbidden outcome or with the end line
 abbrev pub NoShowInFront : ℕ → List ℕ → Type 0
 NoShowInFront cores bytes = NoItemInFront show_text (AreShown cores) bytes
 
@@ -47,7 +47,8 @@ pub record BeginsInstruction (bytes : List ℕ) : Type 0 where
   pub no_core : (more : List ℕ) → bytes ≢ codes "core " ++ more
   pub no_show : (more : List ℕ) → bytes ≢ codes "show " ++ more
 
--- the fault is that of this line, an instruction line where so many sections have begun, one at least, and bytes begin it so
+-- the fault is that of this line: of an instruction line if a section has begun and the line begins as an instruction does, and else of a line of the
+-- test
 abbrev pub IsWrongLine : ℕ → ℕ → List ℕ → LitmusFault → Type 0
 IsWrongLine line begun bytes (BadLine k) = (k ≡ line) × (0 < begun) × BeginsInstruction bytes
 IsWrongLine line begun bytes (BadLitmusLine k) = (k ≡ line) × (0 < begun → BeginsInstruction bytes → ⊥)

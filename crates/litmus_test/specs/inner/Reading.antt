@@ -12,7 +12,7 @@ use Rattle.litmus_test.specs.declared.header.Header.{Header}
 use Rattle.text_lines.specs.Fields.{below}
 use Rattle.text_lines.specs.Words.{at_end}
 
--- a space and then a register of one of so many cores, and the bytes after it
+-- a space and then a register of one of this many cores, and the bytes after it
 unfoldable pub shown_at : ℕ → List ℕ → Option (ShownParts × List ℕ)
 shown_at cores bytes =
     after (codes " ") bytes >>= number_at >>= λ c. after (codes ".r") c.1 >>= number_at >>= λ r.

@@ -1,4 +1,4 @@
--- What a reader of all lines has found. Clauses of private functions cite these.
+-- What a reader of all lines has found. Private contracts cite these.
 use Rattle.std.specs.Prelude.{ℕ, List}
 use Rattle.core_program.specs.Sections.{section_lists}
 use Rattle.litmus_test.specs.Answers.{IsFault}

@@ -12,11 +12,11 @@ abbrev pub same_pair : ℕ × ℕ → ℕ × ℕ → Bool
 same_pair p q = nat_eq p.0 q.0 && nat_eq p.1 q.1
 
 module _ {S : Type 0} where
-  -- so it is of the index by each address and word
+  -- the map gives such an index for each address and word
   abbrev pub HasLasts : List Operation → ℕ → HashMap (ℕ × ℕ) ℕ S → Type 0
   HasLasts operations n lasts = (addr word : ℕ) → AreUpTo operations n addr word (get same_pair lasts (addr, word))
 
-  -- and of all operations of each core
+  -- the same for all operations of each core
   abbrev pub HasLastsOf : List (List Operation) → List (HashMap (ℕ × ℕ) ℕ S) → Type 0
   HasLastsOf cores all =
       (core : ℕ) (operations : List Operation) → slice_get cores core ≡ Some operations → IsSomeAnd (slice_get all core) (HasLasts operations (length operations))

@@ -4,7 +4,7 @@ use Rattle.refutation.specs.declared.text.Front.{Front}
 use Rattle.refutation.specs.Grammar.{end_line}
 use Rattle.refutation.specs.Texts.{Begins, EndsBadly, LacksHeader}
 
--- how the text goes on after the lines of so many steps
+-- how the text goes on after the lines of this many steps
 abbrev pub TellsEnd : List ℕ → ℕ → Option ℕ → Type 0
 TellsEnd rest count None = rest ≡ end_line count
 TellsEnd rest count (Some line) = EndsBadly rest count line

@@ -11,7 +11,7 @@ use Rattle.refutation.specs.States.{settled}
 abbrev pub is_among : BTreeSet (Vec ℕ × Vec ℕ) → List ℕ → List ℕ → Bool
 is_among keys next words = contains_by (λ k. ordering_then (slice_cmp nat_cmp next k.0.items) (slice_cmp nat_cmp words k.1.items)) keys
 
--- it is, once all is performed that passes
+-- it is among them, once every operation that passes has been performed
 abbrev pub is_among_settled : List (List Operation) → List ℕ → BTreeSet (Vec ℕ × Vec ℕ) → List ℕ → List ℕ → Bool
 is_among_settled cores addresses keys next words = is_among keys (settled addresses words cores next) words
 

@@ -6,7 +6,7 @@ use Rattle.refutation.specs.declared.state.State.TheVariants.{Open, Dead}
 use Rattle.refutation.specs.Grammar.{PathFits}
 use Rattle.text_lines.specs.Words.{ends_word, spaced, spaced_number}
 
--- the bytes begin with this sign and these numbers, and these come after them, with no other number first
+-- the bytes are this sign, these numbers and then the rest, which doesn't begin with another number
 pub record PartInFront (sign bytes numbers rest : List ℕ) : Type 0 where
   pub each : PathFits numbers
   pub text : bytes ≡ sign ++ (spaced numeral numbers ++ rest)

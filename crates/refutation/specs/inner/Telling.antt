@@ -7,7 +7,7 @@ use Rattle.refutation.specs.declared.step.Step.{Step}
 use Rattle.refutation.specs.Grammar.{reason_text, name_text, fields_text, step_text, IdFits, PathFits, Fits}
 use Rattle.text_lines.specs.Words.{spaced}
 
--- the bytes are these words, or no words
+-- the bytes are these words, or no such words
 abbrev pub TellsWords : {A : Type 0} → (A → List ℕ) → (A → Type 0) → List ℕ → Option (List A) → Type 0
 TellsWords {A} word WordFits bytes None = (xs : List A) → AllByRecursion WordFits xs → bytes ≢ spaced word xs
 TellsWords word WordFits bytes (Some xs) = AllByRecursion WordFits xs × (bytes ≡ spaced word xs)
@@ -17,7 +17,7 @@ abbrev pub TellsReason : List ℕ → Option Reason → Type 0
 TellsReason bytes None = (source : ℕ) (write : OpId) (path : List ℕ) → source < 2 ^ 64 → IdFits write → PathFits path → bytes ≢ reason_text source write path
 TellsReason bytes (Some x) = (x.source < 2 ^ 64) × IdFits x.write × PathFits x.path × (bytes ≡ reason_text x.source x.write x.path)
 
--- the bytes are the fields of this step of a name, or of none
+-- the bytes are the fields of this step, which has this name, or of no such step
 abbrev pub TellsStep : List ℕ → List ℕ → Option Step → Type 0
 TellsStep name bytes None = (step : Step) → Fits step → name_text step ≡ name → bytes ≢ fields_text step
 TellsStep name bytes (Some step) = Fits step × (name_text step ≡ name) × (bytes ≡ fields_text step)

@@ -2,7 +2,7 @@
 use Rattle.std.specs.Prelude.{ℕ, ◌≤◌, List, [], ◌∷◌, ◌++◌, map, take, reverse}
 use Rattle.refutation.specs.declared.fact.Fact.{Fact}
 
--- cases of which there is one: the facts in force in the first, and in each of the others
+-- a list of one case or more: the facts in force in the first, and in each of the others
 pub record CaseList : Type 0 where
   pub facts : List Fact
   pub others : List (List Fact)

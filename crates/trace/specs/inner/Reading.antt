@@ -12,11 +12,11 @@ abbrev pub skip : List ℕ → List ℕ
 skip [] = []
 skip (b ∷ bs) = if is_blank b then skip bs else b ∷ bs
 
--- a mark, before which blanks may stand
+-- a mark, perhaps with blanks before it
 unfoldable pub mark_at : List ℕ → List ℕ → Option (List ℕ)
 mark_at mark bytes = after mark (skip bytes)
 
--- the number that the digits of a base at the front go on to from this one, and the bytes after them
+-- the number that comes of writing the digits of this base at the front after this number, and the bytes after them
 abbrev pub onward : ℕ → ℕ → List ℕ → ℕ × List ℕ
 onward base n [] = (n, [])
 onward base n (b ∷ bs) = if nat_lt (digit_value b) base then onward base (n * base + digit_value b) bs else (n, b ∷ bs)
@@ -33,7 +33,7 @@ unfoldable pub digits_at : ℕ → List ℕ → Option (ℕ × List ℕ)
 digits_at base [] = None
 digits_at base (b ∷ bs) = if nat_lt (digit_value b) base then fitting (onward base 0 (b ∷ bs)) else None
 
--- a number, before which blanks may stand
+-- a number, perhaps with blanks before it
 unfoldable pub number_at : List ℕ → Option (ℕ × List ℕ)
 number_at bytes =
     if is_some (after (codes "0x") (skip bytes)) then (after (codes "0x") (skip bytes) >>= digits_at 16) else digits_at 10 (skip bytes)
@@ -74,7 +74,7 @@ is_nothing (b ∷ bs) = b == 35
 unfoldable pub is_over : List ℕ → Bool
 is_over bytes = is_nothing (skip bytes)
 
--- the bytes after a time, or all where there is none
+-- the bytes after a time, or all if there is none
 abbrev pub rest_or : List ℕ → Option (ℕ × List ℕ) → List ℕ
 rest_or bytes None = bytes
 rest_or bytes (Some time) = time.1

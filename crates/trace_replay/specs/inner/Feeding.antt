@@ -22,7 +22,7 @@ pub record Stands (l : LineReplay) (said : List TraceLine) : Type 0 where
   pub replayer : StandsFor l.replayer (steps_of said)
   pub number : l.number ≡ line_number (length said)
 
--- and one more was
+-- and one more line was
 pub record TakesLine (said : List TraceLine) (line : List ℕ) (l : LineReplay) : Type 0 where
   pub last : TraceLine
   pub is_line : IsLine line last
@@ -34,14 +34,14 @@ IsStopBy steps Nothing stop = ⊥
 IsStopBy steps (Performs core operation) (Wrong wrong) = IsWrong steps core operation wrong
 IsStopBy steps (Performs core operation) (Refused fault) = fault ≡ OutOfMemory
 
--- why a line isn't gone on with
+-- why the replay stops at a line
 abbrev pub IsStopAt : List TraceLine → List ℕ → Stop → Type 0
 IsStopAt before line (Wrong wrong) = IsWrongAt wrong before line
 IsStopAt before line (Refused (BadTraceLine number)) = IsBadAt number before line
 IsStopAt before line (Refused OutOfMemory) = ⊤
 IsStopAt before line (Refused Read) = ⊥
 
--- these bytes were fed, and of those of the line that isn't whole yet the beginning is kept
+-- these bytes were fed: lines that were replayed, and the beginning of one more, which isn't whole yet
 pub record WasFed (l : LineReplay) (begun bytes : List ℕ) : Type 0 where
   pub whole : List (List ℕ)
   pub cut : AreCut bytes whole begun
@@ -49,13 +49,13 @@ pub record WasFed (l : LineReplay) (begun bytes : List ℕ) : Type 0 where
   pub says : AllZip IsLine whole said
   pub stands : Stands l said
 
--- why bytes aren't gone on with
+-- why the replay of these bytes stops
 abbrev pub IsStopOf : List ℕ → Stop → Type 0
 IsStopOf bytes (Wrong wrong) = IsVerdict bytes (No wrong)
 IsStopOf bytes (Refused Read) = ⊥
 IsStopOf bytes (Refused fault) = IsFault bytes fault
 
--- however they go on
+-- and it stops so however the bytes go on
 abbrev pub IsSettled : List ℕ → Stop → Type 0
 IsSettled bytes stop = (more : List ℕ) → IsStopOf (bytes ++ more) stop
 
@@ -64,6 +64,6 @@ abbrev pub answer_to : Stop → Result ReplayVerdict ReplayFault
 answer_to (Wrong wrong) = Ok (No wrong)
 answer_to (Refused fault) = Err fault
 
--- the answer to bytes; a failed read may come instead of each
+-- the answer to bytes; a failed read or lack of memory may come instead of each
 abbrev pub IsAnswerOf : List ℕ → Result ReplayVerdict ReplayFault → Type 0
 IsAnswerOf bytes answer = MatchResult answer (IsVerdict bytes) (IsFault bytes)

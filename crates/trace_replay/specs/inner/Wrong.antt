@@ -7,7 +7,7 @@ use Rattle.flat_replay.specs.Memory.{IsAnsweredBy, last_at, word_at}
 use Rattle.flat_replay.specs.declared.memory.Memory.{Memory}
 use Rattle.trace_replay.specs.Parts.{WrongParts}
 
--- what is told of an operation that doesn't find the word that it read
+-- what is told about an operation that doesn't find the word that it read
 pub record IsWrongIn (memory : Memory IdParts) (id : IdParts) (operation : Operation) (wrong : WrongParts) : Type 0 where
   pub isnt : ¬ IsAnsweredBy (word_at memory) operation
   pub id_is : wrong.id ≡ id
