@@ -10,11 +10,11 @@ use Rattle.core_program.specs.declared.format.ProgramFormat.TheVariants.{One}
 use Rattle.core_program.specs.declared.instruction.Instruction.{Instruction}
 use Rattle.core_program.specs.declared.fault.ProgramFault.{ProgramFault}
 use Rattle.core_program.specs.declared.fault.ProgramFault.TheVariants.{BadLine, TooLong, SkipPastEnd, OutOfMemory}
-use Rattle.core_program.specs.Answers.{SetLines, SpellsSet, IsBadLine, IsSetFault}
+use Rattle.core_program.specs.Answers.{SetLines, SpellsSet, IsBadLine}
 use Rattle.core_program.specs.Grammar.{format_number, header_text, core_text, end_text, sections, set_lines, EachFits, IsSection, IsSetOf}
 use Rattle.core_program.specs.SetParts.{SetParts}
 use Rattle.core_program.specs.Sections.{SectionsInFront, IsSectionsFault, section_lists}
-use Rattle.core_program.specs.inner.Sections.{HeaderInFront}
+use Rattle.core_program.specs.inner.Sections.{HeaderInFront, IsLineFault}
 use Rattle.core_program.proofs.SectionKinds.{IsKind, bad_lines, each_section, limited, unlimited}
 use Rattle.core_program.proofs.SectionsOf.{AfterSections, HasSections, NotNext, each_fits_of, line_wrong, too_long_right, too_long_wrong}
 use Rattle.core_program.proofs.SetLines.{Next, goes_on, next_core, last_line, has_lines, begun, sections-append, behind_header, end_is_other, filled_up, instruction_no_end, core_no_end, next_of, sections_no_other}
@@ -183,7 +183,7 @@ more_behind format text rest behind cores line k programs some few stands count 
 -- ---- what a reader of sections refuses
 
 pub sections_refused : (format : ProgramFormat) (text body : List ℕ) (cores : ℕ) (fault : ProgramFault) → HeaderInFront format cores text body
-    → IsSectionsFault format cores body fault → IsSetFault text fault
+    → IsSectionsFault format cores body fault → IsLineFault text fault
 sections_refused format text body cores (BadLine k) there h = absurd h
 sections_refused format text body cores (SkipPastEnd k) there h = absurd h
 sections_refused format text body cores OutOfMemory there h = tt

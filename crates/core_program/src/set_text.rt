@@ -5,7 +5,7 @@ ghost use Rattle.std.specs.List.{AllByRecursion};
 ghost use Rattle.core_program.specs.Answers.{IsJumpFault, IsSetFault, SpellsSet};
 ghost use Rattle.core_program.specs.Grammar.{IsSection, IsSetOf};
 ghost use Rattle.core_program.specs.inner.Reading.{cores_at, first_words, header_at};
-ghost use Rattle.core_program.specs.inner.Sections.{parts_of};
+ghost use Rattle.core_program.specs.inner.Sections.{IsLineFault, parts_of};
 ghost use Rattle.decimal_text.specs.Reading.{front_now};
 ghost use Rattle.core_program.specs.Sections.{section_lists};
 ghost use Rattle.core_program.specs.Shape.{IsProgram};
@@ -69,7 +69,7 @@ struct Parts {
 fn read_set(alloc: Global, text: &[u8]) -> Result<Parts, ProgramFault>
     ensures { MatchResult result
         (λ parts. SpellsSet text.now (parts_of parts))
-        (λ fault. IsSetFault text.now fault) }
+        (λ fault. IsLineFault text.now fault) }
 {
     let Some((format, cores, body)) = after_header(text) else {
         return Err(ProgramFault::BadLine(1));

@@ -5,6 +5,7 @@ use Rattle.core_program.specs.declared.fault.ProgramFault.TheVariants.{BadLine, 
 use Rattle.core_program.specs.declared.format.ProgramFormat.{ProgramFormat}
 use Rattle.core_program.specs.declared.section.Section.{Section}
 use Rattle.core_program.specs.declared.set_text.Parts.{Parts}
+use Rattle.core_program.specs.Answers.{IsBadLine, IsTooLong, SetLines}
 use Rattle.core_program.specs.Grammar.{format_number, header_text, program_lines, IsSection}
 use Rattle.core_program.specs.SetParts.{SetParts}
 use Rattle.core_program.specs.Sections.{IsTooMany, NoInstructionInFront, section_lists}
@@ -31,3 +32,10 @@ HeaderInFront format cores bytes rest = (1 ≤ cores) × (cores ≤ 64) × (byte
 -- the set that its lines say
 abbrev pub parts_of : Parts → SetParts
 parts_of parts = record { format = parts.format; programs = section_lists parts.sections.items }
+
+-- the first line of the bytes that isn't as that of a set, or is missing or too much
+abbrev pub IsLineFault : List ℕ → ProgramFault → Type 0
+IsLineFault bytes (BadLine k) = IsBadLine SetLines bytes k
+IsLineFault bytes (TooLong k) = IsTooLong SetLines bytes k
+IsLineFault bytes OutOfMemory = Unit {0}
+IsLineFault bytes (SkipPastEnd k) = ⊥
