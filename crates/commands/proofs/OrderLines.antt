@@ -154,11 +154,11 @@ wrong_line cores text rest ids place begins (inr (end, right, left)) =
     (ids, rest, begins, inr (subst (ComeInOrder cores ids) end right, inl (ap (λ (n : ℕ). n + 1) end, inl left)))
 
 pub bad_end_line : (cores : List (List Operation)) (text rest : List ℕ) (ids : List OpId) (count line : ℕ) → count ≡ length ids → BeginsWithIds text ids rest
-    → ComeInOrder cores ids (length ids) → TellsEnd rest count (Some line) → IsFirstBadOfOrder cores text line
-bad_end_line cores text rest ids count line same begins right (inl tells) =
+    → ComeInOrder cores ids (length ids) → IsSequentialOrder cores ids → TellsEnd rest count (Some line) → IsFirstBadOfOrder cores text line
+bad_end_line cores text rest ids count line same begins right order (inl tells) =
     (ids, rest, begins, inr (right, inl (tells.0 ∙ ap (λ (n : ℕ). n + 1) same, inr (λ more is. tells.1 more (is ∙ ap (λ (n : ℕ). end_line n ++ more) (sym same))))))
-bad_end_line cores text rest ids count line same begins right (inr tells) =
-    (ids, rest, begins, inr (right, inr (tells.0 ∙ ap (λ (n : ℕ). n + 2) same, (tells.1.0, tells.1.1, tells.1.2 ∙ ap (λ (n : ℕ). end_line n ++ tells.1.0) same))))
+bad_end_line cores text rest ids count line same begins right order (inr tells) =
+    (ids, rest, begins, inr (right, inr (tells.0 ∙ ap (λ (n : ℕ). n + 2) same, order, (tells.1.0, tells.1.1, tells.1.2 ∙ ap (λ (n : ℕ). end_line n ++ tells.1.0) same))))
 
 pub whole : (cores : List (List Operation)) (text rest : List ℕ) (ids : List OpId) (count : ℕ) → count ≡ length ids → BeginsWithIds text ids rest
     → IsSequentialOrder cores ids → TellsEnd rest count None → SpellsOrder cores text
@@ -168,4 +168,4 @@ whole cores text rest ids count same begins order tells =
 pub ending : (cores : List (List Operation)) (text rest : List ℕ) (ids : List OpId) (count : ℕ) (bad : Option ℕ) → count ≡ length ids → BeginsWithIds text ids rest
     → ComeInOrder cores ids (length ids) → IsSequentialOrder cores ids → TellsEnd rest count bad → MatchOption bad (SpellsOrder cores text) (IsFirstBadOfOrder cores text)
 ending cores text rest ids count None same begins right order tells = whole cores text rest ids count same begins order tells
-ending cores text rest ids count (Some line) same begins right order tells = bad_end_line cores text rest ids count line same begins right tells
+ending cores text rest ids count (Some line) same begins right order tells = bad_end_line cores text rest ids count line same begins right order tells

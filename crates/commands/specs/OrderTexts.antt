@@ -42,14 +42,13 @@ pub record BeginsWithIds (bytes : List ℕ) (ids : List OpId) (rest : List ℕ) 
   pub none_in_front : NoIdInFront rest
 
 -- Either these ids aren't an order of all operations, or the `end` line with their number doesn't come after their lines: then it is this line that
--- should be the `end` line. Or bytes come after the `end` line, and this is the line after it.
+-- should be the `end` line. Or they are such an order, bytes come after the `end` line, and this is the line after it.
 abbrev pub EndsBadly : List (List Operation) → List OpId → List ℕ → ℕ → Type 0
 EndsBadly cores ids rest line =
     ((line ≡ length ids + 1) × (¬ (IsSequentialOrder cores ids) ⊎ ((more : List ℕ) → rest ≢ end_line (length ids) ++ more)))
-    ⊎ ((line ≡ length ids + 2) × ((more : List ℕ) × (more ≢ []) × (rest ≡ end_line (length ids) ++ more)))
+    ⊎ ((line ≡ length ids + 2) × IsSequentialOrder cores ids × ((more : List ℕ) × (more ≢ []) × (rest ≡ end_line (length ids) ++ more)))
 
--- This line, counted from 1, is the first that isn't as it should be in the text of an order. If operations are missing and bytes come after the
--- `end` line, it may also be the line after the `end` line.
+-- This line, counted from 1, is the first that isn't as it should be in the text of an order.
 abbrev pub IsFirstBadOfOrder : List (List Operation) → List ℕ → ℕ → Type 0
 IsFirstBadOfOrder cores bytes line =
     (ids : List OpId) × (rest : List ℕ) × BeginsWithIds bytes ids rest
