@@ -265,28 +265,46 @@ impl<'a> RefusedLine<'a> {
 
     /// The words about the first slip that it has.
     pub(crate) fn slip(&self) -> Option<&'static str> {
-        let (line, words) = (self.line, self.words);
-        Some(match line {
-            _ if self.place.line == 1 && is_trace(self.text) => {
-                "This is a trace; tardis search judges it."
-            }
-            [0xef, 0xbb, 0xbf, ..] => {
-                "The file begins with a byte order mark, the bytes EF BB BF; write none."
-            }
-            [0xff, 0xfe, ..] | [0xfe, 0xff, ..] => "The file is UTF-16; write ASCII.",
-            [.., b'\r'] => "It ends with CR LF, \\r\\n; write a line feed alone, \\n.",
-            _ if !line.is_ascii() => "It has bytes that aren't ASCII.",
-            _ if line.contains(&b'\t') => "It has a tab, \\t; write one space between two fields.",
-            _ if words.iter().any(begins_comment) => "It has a comment; write none.",
-            _ if line.contains(&b',') => {
-                "It has a comma; write one space between two fields, and numbers in digits alone."
-            }
-            [_, ..] if words.contains(&"") => {
-                "It has a space too many; write one between two fields, and none elsewhere."
-            }
-            _ => return None,
-        })
+        if self.place.line == 1 && is_trace(self.text) {
+            return Some("This is a trace; tardis search judges it.");
+        }
+        match slip_of_bytes(self.line) {
+            None => slip_of_fields(self.line, self.words),
+            slip => slip,
+        }
     }
+}
+
+/// The words about a line that isn't ASCII ended by a line feed.
+fn slip_of_bytes(line: &[u8]) -> Option<&'static str> {
+    if line.starts_with(b"\xef\xbb\xbf") {
+        return Some("The file begins with a byte order mark, the bytes EF BB BF; write none.");
+    }
+    if line.starts_with(b"\xff\xfe") || line.starts_with(b"\xfe\xff") {
+        return Some("The file is UTF-16; write ASCII.");
+    }
+    if line.ends_with(b"\r") {
+        return Some("It ends with CR LF, \\r\\n; write a line feed alone, \\n.");
+    }
+    (!line.is_ascii()).then_some("It has bytes that aren't ASCII.")
+}
+
+/// The words about a line whose fields don't stand one space apart.
+fn slip_of_fields(line: &[u8], words: &[&str]) -> Option<&'static str> {
+    if line.contains(&b'\t') {
+        return Some("It has a tab, \\t; write one space between two fields.");
+    }
+    if words.iter().any(begins_comment) {
+        return Some("It has a comment; write none.");
+    }
+    if line.contains(&b',') {
+        return Some(
+            "It has a comma; write one space between two fields, and numbers in digits alone.",
+        );
+    }
+    (!line.is_empty() && words.contains(&"")).then_some(
+        "It has a space too many; write one between two fields, and none elsewhere.",
+    )
 }
 
 /// How often a byte stands in others.
