@@ -124,12 +124,13 @@ programs_given rows = unwrap_or (first_of (codes "PROGRAMS") rows) []
 abbrev pub out_given : List Row → Text
 out_given rows = unwrap_or (first_of (codes "OUT") rows) []
 
--- a simulation of the programs in the file that was given, with the numbers, the schedule and the seed that were given, and with the files that were
+-- a simulation of the programs in the file that was given, with the numbers, the schedule and the seeds that were given, and with the files that were
 -- given for its numbers and its events
 pub record IsSim (rows : List Row) (sim : Sim) : Type 0 where
   pub limits : AreLimits rows sim.limits
   pub schedule : text_of sim.schedule ≡ first_of (codes "schedule") rows
   pub seed : IsNumberOf (one_of (codes "seed") rows) sim.seed
+  pub stress : IsNumberOf (one_of (codes "stress") rows) sim.stress
   pub statistics : text_of sim.statistics ≡ first_of (codes "stats") rows
   pub events : text_of sim.events ≡ first_of (codes "trace") rows
   pub programs : sim.programs.now ≡ programs_given rows
@@ -147,12 +148,13 @@ pub record IsThreaded (rows : List Row) (run : Run) : Type 0 where
 abbrev pub test_given : List Row → Text
 test_given rows = unwrap_or (first_of (codes "TEST") rows) []
 
--- runs of the test in the file that was given: how many, with which numbers of the machine, from which seed or in threads, and with which file for
+-- runs of the test in the file that was given: how many, with which numbers of the machine, from which seeds or in threads, and with which file for
 -- the numbers of all runs
 pub record IsLitmus (rows : List Row) (litmus : LitmusRuns) : Type 0 where
   pub limits : AreLimits rows litmus.limits
   pub runs : IsCountOr 100 (one_of (codes "runs") rows) litmus.runs
   pub seed : IsCountOr 1 (one_of (codes "seed") rows) litmus.seed
+  pub stress : IsNumberOf (one_of (codes "stress") rows) litmus.stress
   pub threads : IsFlag (one_of (codes "threads") rows) litmus.threads
   pub statistics : text_of litmus.statistics ≡ first_of (codes "stats") rows
   pub test : litmus.test.now ≡ test_given rows

@@ -74,9 +74,9 @@ with_limits app =
     with_number (with_number (with_number (with_number (with_number (with_number app
     (codes "slices")) (codes "lease")) (codes "period")) (codes "cache")) (codes "slice-lines")) (codes "inbox")
 
--- [--schedule F] [--seed N]
+-- [--schedule F] [--seed N] [--stress N]
 abbrev pub with_sim_options : App → App
-with_sim_options app = with_rule (with_rule app (file_option (codes "schedule"))) (number_option (codes "seed"))
+with_sim_options app = with_number (with_number (with_rule app (file_option (codes "schedule"))) (codes "seed")) (codes "stress")
 
 -- PROGRAMS OUT
 abbrev pub with_names : App → App
@@ -86,8 +86,8 @@ with_names app = with_rule (with_rule app (name (codes "PROGRAMS"))) (name (code
 abbrev pub with_stats : App → App
 with_stats app = with_rule app (file_option (codes "stats"))
 
--- tardis sim [--slices N] [--lease N] [--period N] [--cache N] [--slice-lines N] [--inbox N] [--schedule F] [--seed N] [--stats F] [--trace F]
--- PROGRAMS OUT
+-- tardis sim [--slices N] [--lease N] [--period N] [--cache N] [--slice-lines N] [--inbox N] [--schedule F] [--seed N] [--stress N]
+-- [--stats F] [--trace F] PROGRAMS OUT
 abbrev pub sim : App
 sim = with_names (with_rule (with_stats (with_sim_options (with_limits (new_app (codes "sim"))))) (file_option (codes "trace")))
 
@@ -95,12 +95,13 @@ sim = with_names (with_rule (with_stats (with_sim_options (with_limits (new_app 
 abbrev pub run : App
 run = with_names (with_stats (with_limits (new_app (codes "run"))))
 
--- [--runs N] [--seed N] [--threads]
+-- [--runs N] [--seed N] [--stress N] [--threads]
 abbrev pub with_litmus_options : App → App
-with_litmus_options app = with_rule (with_number (with_number app (codes "runs")) (codes "seed")) (flag (codes "threads"))
+with_litmus_options app =
+    with_rule (with_number (with_number (with_number app (codes "runs")) (codes "seed")) (codes "stress")) (flag (codes "threads"))
 
--- tardis litmus [--slices N] [--lease N] [--period N] [--cache N] [--slice-lines N] [--inbox N] [--runs N] [--seed N] [--threads]
--- [--stats F] TEST
+-- tardis litmus [--slices N] [--lease N] [--period N] [--cache N] [--slice-lines N] [--inbox N] [--runs N] [--seed N] [--stress N]
+-- [--threads] [--stats F] TEST
 abbrev pub litmus : App
 litmus = with_rule (with_stats (with_litmus_options (with_limits (new_app (codes "litmus"))))) (name (codes "TEST"))
 

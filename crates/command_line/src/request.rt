@@ -98,6 +98,8 @@ pub struct Sim<'a> {
     pub schedule: Option<&'a str>,
     /// The seed that draws the rounds after the schedule, if one is given.
     pub seed: Option<u64>,
+    /// The seed that draws commands between those rounds, if one is given; alone it draws the rounds too.
+    pub stress: Option<u64>,
     /// The name of the file that the numbers of the run go to, if one is given.
     pub statistics: Option<&'a str>,
     /// The name of the file that the events of the run go to, if one is given.
@@ -130,6 +132,8 @@ pub struct LitmusRuns<'a> {
     pub runs: u64,
     /// The seed that draws the rounds of the first run.
     pub seed: u64,
+    /// The seed that draws commands between those rounds, if one is given.
+    pub stress: Option<u64>,
     /// Whether each core runs in a thread of its own; nothing is drawn then.
     pub threads: bool,
     /// The name of the file that the numbers of all runs go to, if one is given.

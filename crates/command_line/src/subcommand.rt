@@ -87,6 +87,10 @@ const SIM: Subcommand<'static> = Subcommand {
             "seed",
             "Seed of the random interleaving that follows the schedule, 0 to 18446744073709551615 [default: no draws, core 0 first]",
         ),
+        Argument::Number(
+            "stress",
+            "Seed of random evictions, spills, recalls and bumps between the rounds, and of the interleaving if --seed isn't given [default: none]",
+        ),
         Argument::File("stats", STATS_HELP),
         Argument::File(
             "trace",
@@ -125,7 +129,14 @@ const LITMUS: Subcommand<'static> = Subcommand {
             "seed",
             "Seed of the random interleaving of the first run, 0 to 18446744073709551615; one more for each run after it [default: 1]",
         ),
-        Argument::Flag("threads", "Run each core in a thread; --seed is ignored"),
+        Argument::Number(
+            "stress",
+            "Seed of random evictions, spills, recalls and bumps in the first run; one more for each run after it [default: none]",
+        ),
+        Argument::Flag(
+            "threads",
+            "Run each core in a thread; --seed and --stress are ignored",
+        ),
         Argument::File(
             "stats",
             "Write the counts of all runs together to F, as CSV [default: none]",

@@ -110,8 +110,8 @@ ended_leaves : (old mid new : Files) (unread : List ℕ → Type 0) (asked : Ask
 ended_leaves old mid new unread asked count (sound, set, read, (commands, parsed, (q, did, (counted, (between, put, numbers))))) events apart =
     let g = config_of asked.limits in
     let start = opening_parts set.programs g in
-    let run = simulated_run commands asked.seed start q did in
-    let led = subst (λ (w : World). Run g w (simulated_events commands asked.seed start q did) (world q)) (opening_world set.programs g) run.run in
+    let run = simulated_run commands asked.seed asked.stress start q did in
+    let led = subst (λ (w : World). Run g w (simulated_events commands asked.seed asked.stress start q did) (world q)) (opening_world set.programs g) run.run in
     let cores = length set.programs in
     let few = at_most_64 old.told asked.programs.now set read in
     let (text, after) = puts_text mid new asked.events events in
@@ -121,7 +121,7 @@ ended_leaves old mid new unread asked count (sound, set, read, (commands, parsed
     let all = spared (log_format set.format) mid new asked.out.now cores (log_at (world q)) cores asked.events text few
     (λ name log has. apart.logs name log (in_put name (later asked.statistics (asked.events ∷ []) name has))) after first in
     leaves old.told new.told asked.programs.now asked.out.now set (world q) read all
-    (ended_below_get_yes set.programs g (world q) few (simulated_events commands asked.seed start q did, led) (simulated_ended commands asked.seed start q did))
+    (ended_below_get_yes set.programs g (world q) few (simulated_events commands asked.seed asked.stress start q did, led) (simulated_ended commands asked.seed asked.stress start q did))
 
 pub sim_leaves : (old new : Files) (unread : List ℕ → Type 0) (asked : AskedSim) (count : ℕ) → simulating.IsTracedRun old new unread asked (Ok count)
     → IsApart (request.Sim asked) → LeavesYes old.told new.told asked.programs.now asked.out.now

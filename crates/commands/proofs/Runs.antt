@@ -24,11 +24,11 @@ use Rattle.commands.specs.declared.refusal.Refusal.TheVariants.{Programs, Schedu
 module _ (old new : Files) (unread : List ℕ → Type 0) (asked : Sim) (set : SetParts) (commands : List Command) (q : CoreParts)
     (sound : first_bad (config_of asked.limits) ≡ None) (read : AreProgramsIn old.told asked.programs.now set)
     (parsed : AreCommandsOf old.told asked.schedule (length set.programs) commands) where
-  pub faulted : (fault : SimulationFault) → IsSimulationFault commands asked.seed (opening_parts set.programs (config_of asked.limits)) q fault
+  pub faulted : (fault : SimulationFault) → IsSimulationFault commands asked.seed asked.stress (opening_parts set.programs (config_of asked.limits)) q fault
       → AreLeftAsFar (log_format set.format) old new asked.out.now (length set.programs) (log_at (world q)) asked.statistics (numbers_in asked (length set.programs) q) → IsRun old new unread asked (Err (Simulation fault))
   faulted fault is far = (sound, set, read, (commands, parsed, (q, is, far)))
 
-  module _ (simulated : IsSimulated commands asked.seed (opening_parts set.programs (config_of asked.limits)) q) where
+  module _ (simulated : IsSimulated commands asked.seed asked.stress (opening_parts set.programs (config_of asked.limits)) q) where
     pub ended : (count : ℕ) → count ≡ performed_below (log_at (world q)) (length set.programs)
         → AreLeft (log_format set.format) old new asked.out.now (length set.programs) (log_at (world q)) asked.statistics (numbers_in asked (length set.programs) q) → IsRun old new unread asked (Ok count)
     ended count counted put = (sound, set, read, (commands, parsed, (q, simulated, (counted, put))))

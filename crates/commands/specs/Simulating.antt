@@ -58,7 +58,7 @@ Scheduled told asked Holds =
 
 -- this holds of the machine in which the simulation ended
 abbrev pub EndsIn : Sim → SetParts → List Command → (CoreParts → Type 0) → Type 0
-EndsIn asked set commands Holds = (q : CoreParts) × IsSimulated commands asked.seed (opening_parts set.programs (config_of asked.limits)) q × Holds q
+EndsIn asked set commands Holds = (q : CoreParts) × IsSimulated commands asked.seed asked.stress (opening_parts set.programs (config_of asked.limits)) q × Holds q
 
 -- the text of the numbers of a machine of this many cores
 abbrev pub numbers_in : Sim → ℕ → CoreParts → List ℕ
@@ -68,7 +68,7 @@ numbers_in asked cores q = numbers_of cores asked.limits.slices (map (λ seat. s
 abbrev pub LeavesSimulation : Files → Files → Sim → SimulationFault → Type 0
 LeavesSimulation old new asked fault =
     Scheduled old.told asked (λ set commands. (q : CoreParts)
-    × IsSimulationFault commands asked.seed (opening_parts set.programs (config_of asked.limits)) q fault
+    × IsSimulationFault commands asked.seed asked.stress (opening_parts set.programs (config_of asked.limits)) q fault
     × AreLeftAsFar (log_format set.format) old new asked.out.now (length set.programs) (log_at (world q)) asked.statistics (numbers_in asked (length set.programs) q))
 
 -- The number of operations that the programs performed, or why there is none. The configuration is looked at first, then the programs, then the

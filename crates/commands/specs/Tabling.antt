@@ -51,21 +51,21 @@ Tested told asked Holds = IsInOrder asked × (t : LitmusParts) × IsTestIn told 
 
 -- ---- its table
 
--- the table and the totals of runs by threads, or of runs by a seed
-abbrev pub IsTableBy : Bool → LitmusParts → ConfigParts → ℕ → ℕ → Collected → Type 0
-IsTableBy true t g runs seed collected = IsThreadTable t g runs collected
-IsTableBy false t g runs seed collected = IsSeededTable t g runs seed collected
+-- the table and the totals of runs by threads, or of runs by seeds
+abbrev pub IsTableBy : Bool → LitmusParts → ConfigParts → ℕ → ℕ → Option ℕ → Collected → Type 0
+IsTableBy true t g runs seed stress collected = IsThreadTable t g runs collected
+IsTableBy false t g runs seed stress collected = IsSeededTable t g runs seed stress collected
 
--- why there is no table of runs by threads, or by a seed
-abbrev pub IsFaultBy : Bool → LitmusParts → ConfigParts → ℕ → ℕ → CollectFault → Type 0
-IsFaultBy true t g runs seed fault = IsThreadFault t g runs fault
-IsFaultBy false t g runs seed fault = IsCollectFault t g runs seed fault
+-- why there is no table of runs by threads, or by seeds
+abbrev pub IsFaultBy : Bool → LitmusParts → ConfigParts → ℕ → ℕ → Option ℕ → CollectFault → Type 0
+IsFaultBy true t g runs seed stress fault = IsThreadFault t g runs fault
+IsFaultBy false t g runs seed stress fault = IsCollectFault t g runs seed stress fault
 
 -- something holds of the table and the totals of its runs
 abbrev pub Tabled : (List ℕ → Option (List ℕ)) → LitmusRuns → (Collected → Type 0) → Type 0
 Tabled told asked Holds =
     Tested told asked (λ t. (collected : Collected)
-    × IsTableBy asked.threads t (config_of asked.limits) asked.runs asked.seed collected × Holds collected)
+    × IsTableBy asked.threads t (config_of asked.limits) asked.runs asked.seed asked.stress collected × Holds collected)
 
 -- an outcome of the table is forbidden
 abbrev pub has_forbidden : TableParts → Bool
@@ -77,7 +77,7 @@ abbrev pub IsUntabled : (List ℕ → Option (List ℕ)) → (List ℕ → Type 
 IsUntabled told unread asked (Config fault) = first_bad (config_of asked.limits) ≡ Some fault
 IsUntabled told unread asked (Collect BadRuns) = (first_bad (config_of asked.limits) ≡ None) × IsBadRunCount asked.runs
 IsUntabled told unread asked (Collect (RunFailed k cause)) =
-    Tested told asked (λ t. IsFaultBy asked.threads t (config_of asked.limits) asked.runs asked.seed (RunFailed k cause))
+    Tested told asked (λ t. IsFaultBy asked.threads t (config_of asked.limits) asked.runs asked.seed asked.stress (RunFailed k cause))
 IsUntabled told unread asked (Test fault) = IsInOrder asked × IsUntested told unread asked.test.now (Test fault)
 IsUntabled told unread asked (Unread input.Test) = IsInOrder asked × unread asked.test.now
 IsUntabled told unread asked OutOfMemory = ⊤

@@ -61,7 +61,7 @@ pub(crate) fn read_test<F: Folder>(
     Ok(test)
 }
 
-/// The table and the totals of the runs of a test: of threads, or by the seed.
+/// The table and the totals of the runs of a test: of threads, or by the seeds.
 fn collect<R: Threads + Wait + Sync>(
     rt: &R,
     alloc: Global,
@@ -70,13 +70,21 @@ fn collect<R: Threads + Wait + Sync>(
     asked: &LitmusRuns<'_>,
 ) -> Result<Collected, CollectFault>
     ensures { MatchResult result
-        (tabling.IsTableBy asked.now.threads test.now config.now asked.now.runs asked.now.seed)
-        (tabling.IsFaultBy asked.now.threads test.now config.now asked.now.runs asked.now.seed) }
+        (tabling.IsTableBy asked.now.threads test.now config.now asked.now.runs asked.now.seed asked.now.stress)
+        (tabling.IsFaultBy asked.now.threads test.now config.now asked.now.runs asked.now.seed asked.now.stress) }
 {
     if asked.threads {
         return collect_threaded(rt, alloc, test, config, asked.runs);
     }
-    collect_seeded(rt, alloc, test, config, asked.runs, asked.seed)
+    collect_seeded(
+        rt,
+        alloc,
+        test,
+        config,
+        asked.runs,
+        asked.seed,
+        asked.stress,
+    )
 }
 
 /// The table and the totals of the runs that are asked for, or why there are none: 6 of the configuration, and then of

@@ -40,7 +40,13 @@ pub fn sim<F: Folder>(alloc: Global, folder: &mut F, asked: &Sim<'_>) -> Result<
     let Ok(mut machine) = new_machine(alloc, &programs, &config, asked.events.is_some()) else {
         return Err(Refusal::OutOfMemory);
     };
-    let ended = simulate(alloc, &mut machine, commands.as_slice(), asked.seed);
+    let ended = simulate(
+        alloc,
+        &mut machine,
+        commands.as_slice(),
+        asked.seed,
+        asked.stress,
+    );
     let leaving = Leaving {
         out: asked.out,
         statistics: asked.statistics,

@@ -1,6 +1,6 @@
 -- Runs collected one by one.
 use Rattle.std.proofs.Common.{◌≡◌, ℕ, zero, suc, ◌+◌, List, [], ◌∷◌, ◌++◌, length, map, refl, sym, ap, subst, ◌∙◌, arith, length-append}
-use Rattle.std.specs.Prelude.{Some, slice_get}
+use Rattle.std.specs.Prelude.{Option, Some, slice_get}
 use Rattle.std.specs.Global.{Vec}
 use Rattle.std.proofs.lemmas.List.{map_push}
 use Rattle.lease_rule.specs.ConfigParts.{ConfigParts}
@@ -9,7 +9,7 @@ use Rattle.core_machine.specs.Parts.{CoreParts, world}
 use Rattle.litmus.specs.Collecting.{AreEndsOf}
 use Rattle.litmus_test.specs.Parts.{LitmusParts}
 use Rattle.litmus.specs.Ends.{ThreadEnd, left, outcome_of}
-use Rattle.litmus.specs.Runs.{IsEndOf, IsSeededRun, IsThreadRun, seed_of, seeded_numbers, thread_numbers}
+use Rattle.litmus.specs.Runs.{IsEndOf, IsSeededRun, IsThreadRun, seed_of, seeded_numbers, stress_of, thread_numbers}
 use Rattle.statistics.specs.Runs.{RunNumbers}
 use Rattle.statistics.specs.Totals.{IsBounded, totals_of, with_run}
 use Rattle.statistics.specs.declared.run_totals.RunTotals.{RunTotals}
@@ -29,8 +29,9 @@ pub record CollectedSoFar (E : Type 0) (Ran : ℕ → E → Type 0) (at : E → 
   pub sums : totals ≡ totals_of (map numbers ends)
   pub bounded : IsBounded k totals
 
-abbrev pub SeededSoFar : LitmusParts → ConfigParts → ℕ → List (Vec ℕ × ℕ) → RunTotals → ℕ → Type 0
-SeededSoFar t g seed entries totals k = CollectedSoFar CoreParts (λ n. IsSeededRun t g (seed_of seed n)) world (seeded_numbers t g) t entries totals k
+abbrev pub SeededSoFar : LitmusParts → ConfigParts → ℕ → Option ℕ → List (Vec ℕ × ℕ) → RunTotals → ℕ → Type 0
+SeededSoFar t g seed stress entries totals k =
+    CollectedSoFar CoreParts (λ n. IsSeededRun t g (seed_of seed n) (stress_of stress n)) world (seeded_numbers t g) t entries totals k
 
 abbrev pub ThreadedSoFar : LitmusParts → ConfigParts → List (Vec ℕ × ℕ) → RunTotals → ℕ → Type 0
 ThreadedSoFar t g entries totals k = CollectedSoFar ThreadEnd (λ n. IsThreadRun t g) left (thread_numbers t g) t entries totals k

@@ -1,5 +1,5 @@
 -- Tables of a test's runs.
-use Rattle.std.specs.Prelude.{◌≡◌, ◌⊎◌, ℕ, ◌+◌, ◌<◌, ◌≤◌, List, [], ◌∷◌, length, map, slice_get, Some}
+use Rattle.std.specs.Prelude.{◌≡◌, ◌⊎◌, ℕ, ◌+◌, ◌<◌, ◌≤◌, List, [], ◌∷◌, Option, Some, length, map, slice_get}
 use Rattle.std.specs.Cmp.Lexicographic.{slice_cmp}
 use Rattle.std.specs.List.{AllByRecursion, filter}
 use Rattle.std.specs.Ordering.{nat_cmp}
@@ -10,7 +10,7 @@ use Rattle.core_machine.specs.Parts.{CoreParts, world}
 use Rattle.litmus_test.specs.Outcomes.{is_forbidden, is_outcome}
 use Rattle.litmus_test.specs.Parts.{LitmusParts}
 use Rattle.litmus.specs.Ends.{ThreadEnd, GetsYes, SaysNo, left, outcome_of}
-use Rattle.litmus.specs.Runs.{IsRunCause, IsSeededRun, IsThreadCause, IsThreadRun, seed_of, seeded_numbers, thread_numbers}
+use Rattle.litmus.specs.Runs.{IsRunCause, IsSeededRun, IsThreadCause, IsThreadRun, seed_of, seeded_numbers, stress_of, thread_numbers}
 use Rattle.litmus.specs.declared.collecting.Collected.{Collected}
 use Rattle.litmus_test.specs.TableParts.{RowParts}
 use Rattle.statistics.specs.Runs.{RunNumbers}
@@ -92,13 +92,13 @@ TellsNo OutOfMemory = ⊥
 
 -- ---- tables of seeded runs, each by its own seed
 
-abbrev pub IsSeededTable : LitmusParts → ConfigParts → ℕ → ℕ → Collected → Type 0
-IsSeededTable t g runs seed collected =
-    IsTableOf CoreParts (λ k. IsSeededRun t g (seed_of seed k)) world (seeded_numbers t g) t runs collected
+abbrev pub IsSeededTable : LitmusParts → ConfigParts → ℕ → ℕ → Option ℕ → Collected → Type 0
+IsSeededTable t g runs seed stress collected =
+    IsTableOf CoreParts (λ k. IsSeededRun t g (seed_of seed k) (stress_of stress k)) world (seeded_numbers t g) t runs collected
 
-abbrev pub IsCollectFault : LitmusParts → ConfigParts → ℕ → ℕ → CollectFault → Type 0
-IsCollectFault t g runs seed fault =
-    IsFaultOf CoreParts (λ k. IsSeededRun t g (seed_of seed k)) (λ k. IsRunCause t g (seed_of seed k)) world t runs fault
+abbrev pub IsCollectFault : LitmusParts → ConfigParts → ℕ → ℕ → Option ℕ → CollectFault → Type 0
+IsCollectFault t g runs seed stress fault =
+    IsFaultOf CoreParts (λ k. IsSeededRun t g (seed_of seed k) (stress_of stress k)) (λ k. IsRunCause t g (seed_of seed k) (stress_of stress k)) world t runs fault
 
 -- ---- tables of runs by threads
 

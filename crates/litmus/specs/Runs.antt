@@ -1,5 +1,6 @@
 -- Runs of a test: how they come to their ends, and why one has no outcome that counts.
-use Rattle.std.specs.Prelude.{◌≡◌, ◌⊎◌, ℕ, ◌+◌, ◌%◌, ◌^◌, List, [], Some, length, map}
+use Rattle.std.specs.Prelude.{◌≡◌, ◌⊎◌, ℕ, ◌+◌, ◌%◌, ◌^◌, List, [], Option, Some, length, map}
+use Rattle.std.specs.Option.{option_map}
 use Rattle.lease_rule.specs.ConfigParts.{ConfigParts}
 use Rattle.core_program.specs.declared.instruction.Instruction.{Instruction}
 use Rattle.core_unit.specs.Parts.{UnitParts}
@@ -21,13 +22,18 @@ use Rattle.litmus.specs.declared.run_cause.RunCause.TheVariants as cause
 
 -- ---- a run by a seed
 
--- A run of the core machine, from the start of the programs: by just the events of the rounds that this seed draws.
-abbrev pub IsSeededRun : LitmusParts → ConfigParts → ℕ → CoreParts → Type 0
-IsSeededRun t g seed q = IsSimulatedByRun [] (Some seed) (opening_parts t.programs g) q
+-- A run of the core machine, from the start of the programs: by just the events of the rounds that this seed draws, and of the commands
+-- that a seed for stress draws.
+abbrev pub IsSeededRun : LitmusParts → ConfigParts → ℕ → Option ℕ → CoreParts → Type 0
+IsSeededRun t g seed stress q = IsSimulatedByRun [] (Some seed) stress (opening_parts t.programs g) q
 
 -- the seed of run k
 abbrev pub seed_of : ℕ → ℕ → ℕ
 seed_of seed k = (seed + k) % 2 ^ 64
+
+-- and that of its commands
+abbrev pub stress_of : Option ℕ → ℕ → Option ℕ
+stress_of stress k = option_map (λ seed. seed_of seed k) stress
 
 -- ---- a run by threads
 
@@ -57,8 +63,8 @@ abbrev pub thread_numbers : LitmusParts → ConfigParts → ThreadEnd → RunNum
 thread_numbers t g end = run_numbers (length t.programs) g.slices end.units end.slices
 
 -- the run by this seed
-abbrev pub IsSeededEnd : LitmusParts → ConfigParts → ℕ → List ℕ → RunNumbers → Type 0
-IsSeededEnd t g seed outcome n = IsEndOf CoreParts (IsSeededRun t g seed) world (seeded_numbers t g) t outcome n
+abbrev pub IsSeededEnd : LitmusParts → ConfigParts → ℕ → Option ℕ → List ℕ → RunNumbers → Type 0
+IsSeededEnd t g seed stress outcome n = IsEndOf CoreParts (IsSeededRun t g seed stress) world (seeded_numbers t g) t outcome n
 
 -- a run by threads
 abbrev pub IsThreadEnd : LitmusParts → ConfigParts → List ℕ → RunNumbers → Type 0
@@ -73,17 +79,17 @@ pub data IsCauseOf (E : Type 0) (Ran : E → Type 0) (NotEnded : RunCause → Ty
   no_memory : why ≡ cause.OutOfMemory → IsCauseOf E Ran NotEnded at t why
 
 -- the cores don't come to their ends by this seed
-abbrev pub IsUnsimulated : LitmusParts → ConfigParts → ℕ → RunCause → Type 0
-IsUnsimulated t g seed why =
-    (q : CoreParts) × (fault : SimulationFault) × IsSimulationFault [] (Some seed) (opening_parts t.programs g) q fault × (why ≡ cause.Simulation fault)
+abbrev pub IsUnsimulated : LitmusParts → ConfigParts → ℕ → Option ℕ → RunCause → Type 0
+IsUnsimulated t g seed stress why =
+    (q : CoreParts) × (fault : SimulationFault) × IsSimulationFault [] (Some seed) stress (opening_parts t.programs g) q fault × (why ≡ cause.Simulation fault)
 
 -- nor by threads
 abbrev pub IsUnthreaded : LitmusParts → RunCause → Type 0
 IsUnthreaded t why = (fault : ThreadsFault) × IsUnendedRun t.programs fault × (why ≡ cause.Threads fault)
 
 -- why the run by this seed has none
-abbrev pub IsRunCause : LitmusParts → ConfigParts → ℕ → RunCause → Type 0
-IsRunCause t g seed why = IsCauseOf CoreParts (IsSeededRun t g seed) (IsUnsimulated t g seed) world t why
+abbrev pub IsRunCause : LitmusParts → ConfigParts → ℕ → Option ℕ → RunCause → Type 0
+IsRunCause t g seed stress why = IsCauseOf CoreParts (IsSeededRun t g seed stress) (IsUnsimulated t g seed stress) world t why
 
 -- why a run by threads has none
 abbrev pub IsThreadCause : LitmusParts → ConfigParts → RunCause → Type 0

@@ -35,6 +35,11 @@ to_go p waits c = left_at (world p) c * 1001 + (1000 - get_or waits c 0)
 pub patience : CoreParts → List ℕ → ℕ
 patience p waits = total (to_go p waits) 64
 
+-- where no core has more instructions left, there is no more
+pub patience_kept : (p q : CoreParts) (waits : List ℕ) → ((d : ℕ) → left_at (world q) d ≤ left_at (world p) d) → patience q waits ≤ patience p waits
+unfolding patience
+patience_kept p q waits each = total_no_more (to_go p waits) (to_go q waits) 64 (λ d. let less = each d in omega (arith, less))
+
 module _ (p : CoreParts) (waits : List ℕ) (c : ℕ) (q : CoreParts) (long : length waits ≡ 64) (below : c < 64) (round : IsRound c p q)
     (few : waited waits c p q < 1000) where
   abbrev after : List ℕ

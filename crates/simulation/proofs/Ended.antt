@@ -6,7 +6,6 @@ use Rattle.core_machine.specs.Machine.{World}
 use Rattle.core_machine.specs.Parts.{CoreParts, world}
 use Rattle.core_machine.specs.Works.{has_next}
 use Rattle.core_machine.proofs.Ended.{run_ended}
-use Rattle.tardis_core.specs.Rounds.{IsFinished}
 use Rattle.schedule.specs.declared.command.Command.{Command}
 use Rattle.simulation.specs.Drawing.{IsDrawnOut, cores_left, left_below}
 use Rattle.simulation.specs.Events.{ops_events}
@@ -39,9 +38,9 @@ none_below w (suc n) none c below = elim (which c n (omega arith)) [
   | inr lower ↦ none_below w n (nothing_before (left_below w n) (if has_next w n then n ∷ [] else []) none) c lower
 ]
 
-drawn_ended : (seed : ℕ) (p q : CoreParts) → IsDrawnOut seed p q → NoneIsLeft (world q)
+drawn_ended : (seed : ℕ) (stress : Option ℕ) (p q : CoreParts) → IsDrawnOut seed stress p q → NoneIsLeft (world q)
 unfolding cores_left
-drawn_ended seed p q out = none_below (world q) 64 out.none_left
+drawn_ended seed stress p q out = none_below (world q) 64 out.none_left
 
 -- ---- cores finished in their order
 
@@ -56,9 +55,10 @@ finished_ended p n q (finishing.one_more d r t before finished) c below = elim (
 
 -- ---- either
 
-none_is_left : (seed : Option ℕ) (p q : CoreParts) → IsEnded seed p q → NoneIsLeft (world q)
-none_is_left None p q finished = finished_ended p 64 q finished
-none_is_left (Some seed) p q out = drawn_ended seed p q out
+none_is_left : (seed stress : Option ℕ) (p q : CoreParts) → IsEnded seed stress p q → NoneIsLeft (world q)
+none_is_left None None p q finished = finished_ended p 64 q finished
+none_is_left None (Some both) p q out = drawn_ended both (Some both) p q out
+none_is_left (Some seed) stress p q out = drawn_ended seed stress p q out
 
-pub simulated_ended : (xs : List Command) (seed : Option ℕ) (p q : CoreParts) → IsSimulated xs seed p q → NoneIsLeft (world q)
-simulated_ended xs seed p q did = none_is_left seed did.between q did.ended
+pub simulated_ended : (xs : List Command) (seed stress : Option ℕ) (p q : CoreParts) → IsSimulated xs seed stress p q → NoneIsLeft (world q)
+simulated_ended xs seed stress p q did = none_is_left seed stress did.between q did.ended

@@ -8,7 +8,7 @@ use Rattle.core_machine.specs.Works.{has_next}
 use Rattle.tardis_core.proofs.Nexts.{round_next}
 use Rattle.simulation.specs.Drawing.{cores_left, is_other, left_below, without}
 
-same_below : (w t : World) (n : ℕ) → ((d : ℕ) → has_next t d ≡ has_next w d) → left_below t n ≡ left_below w n
+pub same_below : (w t : World) (n : ℕ) → ((d : ℕ) → has_next t d ≡ has_next w d) → left_below t n ≡ left_below w n
 same_below w t zero same = refl
 same_below w t (suc n) same = rw (same n, same_below w t n same) refl
 

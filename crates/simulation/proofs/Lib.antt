@@ -1,3 +1,4 @@
+mod Disturbed
 mod Drawn
 mod Draws
 mod Left

@@ -78,7 +78,7 @@ by_set w t i u v at is falls d =
     let less : both_at t d ≤ both_at w d = rw is (set_falls both w.cores i d u v at falls.both) in
     record { left = rw is (set_falls left w.cores i d u v at falls.left); both = omega (arith, less, both_at_is w d, both_at_is t d) }
 
-leads_falls : (g : ConfigParts) (w : World) (e : Event) (o : Outcome) (t : World) → Leads g w e o t → (d : ℕ) → FallsAt d w t
+pub leads_falls : (g : ConfigParts) (w : World) (e : Event) (o : Outcome) (t : World) → Leads g w e o t → (d : ℕ) → FallsAt d w t
 leads_falls g w e o t (by_core i x y u v at leads) d = by_set w t i u v at refl (core_falls g i u x y v leads) d
 leads_falls g w e o t (serves i u m x entries s r at h k there handled) d = by_set w t i u (record u { kept = Some x }) at refl (falls_as u (record u { kept = Some x }) refl refl refl) d
 leads_falls g w e o t (spills a s r there evicted) d = record { left = omega arith; both = omega arith }

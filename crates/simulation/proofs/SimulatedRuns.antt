@@ -1,23 +1,20 @@
 -- What a simulation does is one run of the core machine.
-use Rattle.std.proofs.Common.{◌≡◌, ◌⊎◌, ℕ, List, [], ◌∷◌, ◌++◌, refl, sym, ap, subst, ◌∙◌, inl, inr}
-use Rattle.std.specs.Prelude.{Option, None, Some, option_and_then}
-use Rattle.lease_rule.specs.ConfigParts.{ConfigParts}
+use Rattle.std.proofs.Common.{◌≡◌, ℕ, List, [], ◌∷◌, ◌++◌, sym, subst, inl, inr}
+use Rattle.std.specs.Prelude.{Option, None, Some}
 use Rattle.core_unit.specs.declared.outcome.Outcome.{Outcome}
 use Rattle.schedule.specs.declared.command.Command.{Command}
 use Rattle.schedule.specs.declared.command.Command.TheVariants as command
-use Rattle.core_machine.specs.Machine.{Run, next, start}
-use Rattle.core_machine.specs.Parts.{CoreParts, world}
+use Rattle.core_machine.specs.Parts.{CoreParts}
 use Rattle.tardis_core.specs.Rounds.{IsOpIfLeft, IsRun, IsRunTo, EventLeads, Ops, Rounds}
 use Rattle.tardis_core.specs.Rounds as rounds
-use Rattle.core_machine.specs.Runs.{run_from}
 use Rattle.core_machine.specs.declared.event.Event.{Event}
-use Rattle.tardis_core.specs.declared.rounds.fault.RoundFault.{RoundFault}
 use Rattle.tardis_core.proofs.RoundRuns.{finish_fault_run, no_run, op_fault_run, part_runs, run_more, run_then, stays, stopped_run, then_run}
 use Rattle.simulation.specs.Commands.{Follows, IsRefusedCommand, IsUnfollowed, CommandLeads}
 use Rattle.simulation.specs.Commands as commands
-use Rattle.simulation.specs.Drawing.{Draws, IsDrawFault, Leads, draws_of}
+use Rattle.rand_pcg.specs.Lcg.{Lcg}
+use Rattle.simulation.specs.Drawing.{Disturbs, Draws, IsDrawFault, IsUndisturbed, Leads, draws_of}
 use Rattle.simulation.specs.Drawing as drawing
-use Rattle.simulation.specs.Events.{command_events, drawn_events, ended_events, finished_events, followed_events, op_events, ops_events, rounds_events, simulated_events}
+use Rattle.simulation.specs.Events.{command_events, disturbed_events, drawn_events, ended_events, finished_events, followed_events, op_events, ops_events, rounds_events, simulated_events}
 use Rattle.simulation.specs.Finishing.{FinishesFirst}
 use Rattle.simulation.specs.Finishing as finishing
 use Rattle.simulation.specs.Simulating.{IsEnded, IsSimulated, IsSimulationFault, IsUnended}
@@ -58,24 +55,30 @@ followed_run p xs q commands.no_command = no_run p
 followed_run p xs q (commands.one_more before x r t followed obeyed) =
     run_then p r t (followed_events p before r followed) (command_events r x t obeyed) (followed_run p before r followed) (command_run r x t obeyed)
 
+disturbed_run : (g : Option Lcg) (p q : CoreParts) (x : Disturbs g p q) → IsRun p (disturbed_events g p q x) q
+disturbed_run None p q same = subst (λ (t : CoreParts). IsRun p [] t) (sym same) (no_run p)
+disturbed_run (Some g) p q (x, drawn, obeyed) = command_run p x q obeyed
+
 pub drawn_run : (d : Draws) (p : CoreParts) (e : Draws) (q : CoreParts) (x : Leads d p e q) → IsRun p (drawn_events d p e q x) q
 drawn_run d p e q drawing.no_round = no_run p
-drawn_run d p e q (drawing.one_more f r c t x drawn few) =
-    run_then p r t (drawn_events d p f r x) drawn.round.events (drawn_run d p f r x) (part_runs c _ r drawn.round.events t _ drawn.round.part)
+drawn_run d p e q (drawing.one_more f r c s t x did drawn few) =
+    run_then p r t (drawn_events d p f r x) (disturbed_events f.stress r s did ++ drawn.round.events) (drawn_run d p f r x)
+    (run_then r s t (disturbed_events f.stress r s did) drawn.round.events (disturbed_run f.stress r s did) (part_runs c _ s drawn.round.events t _ drawn.round.part))
 
 finished_run : (p : CoreParts) (n : ℕ) (q : CoreParts) (x : FinishesFirst p n q) → IsRun p (finished_events p n q x) q
 finished_run p n q finishing.no_core = no_run p
 finished_run p n q (finishing.one_more c r t x finished) =
     run_then p r t (finished_events p c r x) (ops_events c r t finished.ops) (finished_run p c r x) (ops_run c r t finished.ops)
 
-ended_run : (seed : Option ℕ) (p q : CoreParts) (x : IsEnded seed p q) → IsRun p (ended_events seed p q x) q
-ended_run None p q x = finished_run p 64 q x
-ended_run (Some seed) p q x = drawn_run (draws_of seed) p x.draws q x.leads
+ended_run : (seed stress : Option ℕ) (p q : CoreParts) (x : IsEnded seed stress p q) → IsRun p (ended_events seed stress p q x) q
+ended_run None None p q x = finished_run p 64 q x
+ended_run None (Some both) p q x = drawn_run (draws_of both (Some both)) p x.draws q x.leads
+ended_run (Some seed) stress p q x = drawn_run (draws_of seed stress) p x.draws q x.leads
 
-pub simulated_run : (xs : List Command) (seed : Option ℕ) (p q : CoreParts) (x : IsSimulated xs seed p q) → IsRun p (simulated_events xs seed p q x) q
-simulated_run xs seed p q x =
-    run_then p x.between q (followed_events p xs x.between x.followed) (ended_events seed x.between q x.ended)
-    (followed_run p xs x.between x.followed) (ended_run seed x.between q x.ended)
+pub simulated_run : (xs : List Command) (seed stress : Option ℕ) (p q : CoreParts) (x : IsSimulated xs seed stress p q) → IsRun p (simulated_events xs seed stress p q x) q
+simulated_run xs seed stress p q x =
+    run_then p x.between q (followed_events p xs x.between x.followed) (ended_events seed stress x.between q x.ended)
+    (followed_run p xs x.between x.followed) (ended_run seed stress x.between q x.ended)
 
 -- ---- what was done before a refusal
 
@@ -101,22 +104,31 @@ unfollowed_run : (p : CoreParts) (xs : List Command) (q : CoreParts) (fault : Si
 unfollowed_run p xs q fault x =
     then_run p x.between q (some_run p x.between _ (followed_run p _ x.between x.followed)) (refused_run x.between x.command q fault x.refused)
 
-draw_fault_run : (seed : ℕ) (p q : CoreParts) (fault : SimulationFault) → IsDrawFault seed p q fault → IsRunTo p q
-draw_fault_run seed p q fault (drawing.stopped draws r c x drawn (why, is, refused)) =
-    then_run p r q (some_run p r _ (drawn_run (draws_of seed) p draws r x)) (stopped_run c _ r q why refused)
-draw_fault_run seed p q fault (drawing.gave_up draws r c x drawn long is) =
-    then_run p r q (some_run p r _ (drawn_run (draws_of seed) p draws r x)) (some_run r q _ (part_runs c _ r drawn.round.events q _ drawn.round.part))
-draw_fault_run seed p q fault (drawing.no_memory same is) = same_run p q same
+undisturbed_run : (g : Option Lcg) (p q : CoreParts) (fault : SimulationFault) → IsUndisturbed g p q fault → IsRunTo p q
+undisturbed_run None p q fault none = absurd none
+undisturbed_run (Some g) p q fault (x, drawn, refused) = refused_run p x q fault refused
 
-unended_run : (seed : Option ℕ) (p q : CoreParts) (fault : SimulationFault) → IsUnended seed p q fault → IsRunTo p q
-unended_run None p q fault x =
+draw_fault_run : (seed : ℕ) (stress : Option ℕ) (p q : CoreParts) (fault : SimulationFault) → IsDrawFault seed stress p q fault → IsRunTo p q
+draw_fault_run seed stress p q fault (drawing.stopped draws r c s x did drawn (why, is, refused)) =
+    then_run p r q (some_run p r _ (drawn_run (draws_of seed stress) p draws r x))
+    (then_run r s q (some_run r s _ (disturbed_run draws.stress r s did)) (stopped_run c _ s q why refused))
+draw_fault_run seed stress p q fault (drawing.gave_up draws r c s x did drawn long is) =
+    then_run p r q (some_run p r _ (drawn_run (draws_of seed stress) p draws r x))
+    (then_run r s q (some_run r s _ (disturbed_run draws.stress r s did)) (some_run s q _ (part_runs c _ s drawn.round.events q _ drawn.round.part)))
+draw_fault_run seed stress p q fault (drawing.undisturbed draws r x refused) =
+    then_run p r q (some_run p r _ (drawn_run (draws_of seed stress) p draws r x)) (undisturbed_run draws.stress r q fault refused)
+draw_fault_run seed stress p q fault (drawing.no_memory same is) = same_run p q same
+
+unended_run : (seed stress : Option ℕ) (p q : CoreParts) (fault : SimulationFault) → IsUnended seed stress p q fault → IsRunTo p q
+unended_run None None p q fault x =
     then_run p x.between q (some_run p x.between _ (finished_run p x.core x.between x.before)) (finish_fault_run x.core x.between q x.stopped.0 x.stopped.2)
-unended_run (Some seed) p q fault x = draw_fault_run seed p q fault x
+unended_run None (Some both) p q fault x = draw_fault_run both (Some both) p q fault x
+unended_run (Some seed) stress p q fault x = draw_fault_run seed stress p q fault x
 
-pub fault_run : (xs : List Command) (seed : Option ℕ) (p q : CoreParts) (fault : SimulationFault) → IsSimulationFault xs seed p q fault → IsRunTo p q
-fault_run xs seed p q fault (inl x) = unfollowed_run p xs q fault x
-fault_run xs seed p q fault (inr x) =
-    then_run p x.between q (some_run p x.between _ (followed_run p xs x.between x.followed)) (unended_run seed x.between q fault x.unended)
+pub fault_run : (xs : List Command) (seed stress : Option ℕ) (p q : CoreParts) (fault : SimulationFault) → IsSimulationFault xs seed stress p q fault → IsRunTo p q
+fault_run xs seed stress p q fault (inl x) = unfollowed_run p xs q fault x
+fault_run xs seed stress p q fault (inr x) =
+    then_run p x.between q (some_run p x.between _ (followed_run p xs x.between x.followed)) (unended_run seed stress x.between q fault x.unended)
 
-pub done_run : (xs : List Command) (seed : Option ℕ) (p q : CoreParts) → IsSimulated xs seed p q → IsRunTo p q
-done_run xs seed p q x = some_run p q _ (simulated_run xs seed p q x)
+pub done_run : (xs : List Command) (seed stress : Option ℕ) (p q : CoreParts) → IsSimulated xs seed stress p q → IsRunTo p q
+done_run xs seed stress p q x = some_run p q _ (simulated_run xs seed stress p q x)

@@ -9,7 +9,8 @@ use Rattle.core_machine.specs.declared.event.Event.{Event}
 use Rattle.core_machine.specs.declared.event.Event.TheVariants as event
 use Rattle.simulation.specs.Commands.{Follows, CommandLeads}
 use Rattle.simulation.specs.Commands as commands
-use Rattle.simulation.specs.Drawing.{Draws, Leads}
+use Rattle.rand_pcg.specs.Lcg.{Lcg}
+use Rattle.simulation.specs.Drawing.{Disturbs, Draws, Leads}
 use Rattle.simulation.specs.Drawing as drawing
 use Rattle.simulation.specs.Finishing.{FinishesFirst}
 use Rattle.simulation.specs.Finishing as finishing
@@ -49,25 +50,31 @@ followed_events p xs q (commands.one_more before x r t followed obeyed) = follow
 
 -- ---- of the ends of all cores
 
--- of drawn rounds
+-- of a drawn command
+abbrev pub disturbed_events : (g : Option Lcg) (p q : CoreParts) → Disturbs g p q → List Event
+disturbed_events None p q same = []
+disturbed_events (Some g) p q (x, drawn, obeyed) = command_events p x q obeyed
+
+-- of drawn rounds, each after its command
 abbrev pub drawn_events : (d : Draws) (p : CoreParts) (e : Draws) (q : CoreParts) → Leads d p e q → List Event
 drawn_events d p e q drawing.no_round = []
-drawn_events d p e q (drawing.one_more f r c t before drawn few) = drawn_events d p f r before ++ drawn.round.events
+drawn_events d p e q (drawing.one_more f r c s t before did drawn few) = drawn_events d p f r before ++ (disturbed_events f.stress r s did ++ drawn.round.events)
 
 -- of cores finished in their order
 abbrev pub finished_events : (p : CoreParts) (n : ℕ) (q : CoreParts) → FinishesFirst p n q → List Event
 finished_events p n q finishing.no_core = []
 finished_events p n q (finishing.one_more c r t before finished) = finished_events p c r before ++ ops_events c r t finished.ops
 
-abbrev pub ended_events : (seed : Option ℕ) (p q : CoreParts) → IsEnded seed p q → List Event
-ended_events None p q ended = finished_events p 64 q ended
-ended_events (Some seed) p q ended = drawn_events (drawing.draws_of seed) p ended.draws q ended.leads
+abbrev pub ended_events : (seed stress : Option ℕ) (p q : CoreParts) → IsEnded seed stress p q → List Event
+ended_events None None p q ended = finished_events p 64 q ended
+ended_events None (Some both) p q ended = drawn_events (drawing.draws_of both (Some both)) p ended.draws q ended.leads
+ended_events (Some seed) stress p q ended = drawn_events (drawing.draws_of seed stress) p ended.draws q ended.leads
 
 -- ---- of a whole simulation
 
-abbrev pub simulated_events : (xs : List Command) (seed : Option ℕ) (p q : CoreParts) → IsSimulated xs seed p q → List Event
-simulated_events xs seed p q did = followed_events p xs did.between did.followed ++ ended_events seed did.between q did.ended
+abbrev pub simulated_events : (xs : List Command) (seed stress : Option ℕ) (p q : CoreParts) → IsSimulated xs seed stress p q → List Event
+simulated_events xs seed stress p q did = followed_events p xs did.between did.followed ++ ended_events seed stress did.between q did.ended
 
 -- the commands and then the ends of all cores are one run of the core machine, by just the events that they make
-abbrev pub IsSimulatedByRun : List Command → Option ℕ → CoreParts → CoreParts → Type 0
-IsSimulatedByRun xs seed p q = (did : IsSimulated xs seed p q) × IsRun p (simulated_events xs seed p q did) q
+abbrev pub IsSimulatedByRun : List Command → Option ℕ → Option ℕ → CoreParts → CoreParts → Type 0
+IsSimulatedByRun xs seed stress p q = (did : IsSimulated xs seed stress p q) × IsRun p (simulated_events xs seed stress p q did) q

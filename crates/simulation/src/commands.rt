@@ -23,7 +23,7 @@ pub(crate) fn follow(machine: &mut Core, commands: &[Command]) -> Result<(), Sim
 }
 
 /// Does what a command says.
-fn obey(machine: &mut Core, command: &Command) -> Result<(), SimulationFault>
+pub(crate) fn obey(machine: &mut Core, command: &Command) -> Result<(), SimulationFault>
     ensures { MatchResult result
         (λ _. CommandLeads machine.old command.now machine.new)
         (λ fault. IsRefusedCommand machine.old command.now machine.new fault) }

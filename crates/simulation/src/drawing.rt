@@ -1,4 +1,4 @@
-//! Rounds of drawn cores.
+//! Rounds of drawn cores, and commands that are drawn between them.
 
 ghost use Rattle.std.specs.Prelude.{◌≡◌, ◌<◌, ◌≤◌, ◌⊎◌, if◌then◌else◌, length, slice_set, IfOk, IfErr, OnOk, MatchResult};
 ghost use Rattle.simulation.specs.Drawing.{IsDrawFault, IsDrawnOut, cores_left, waited, without};
@@ -7,6 +7,7 @@ ghost use Rattle.tardis_core.specs.Rounds.{IsRefusedRound, IsRound};
 ghost use Rattle.core_machine.specs.Works.{has_next, log_at};
 ghost use Rattle.tardis_core.specs.declared.rounds.fault.RoundCause.TheVariants.{GaveUp};
 
+use super::disturbing::{disturb, generator_of};
 use super::fault::SimulationFault;
 use mem_op::CoreId;
 use rand_core::SeedableRng;
@@ -17,17 +18,26 @@ use tardis_core::rounds::{
     MAX_ROUNDS_PER_OPERATION, RoundCause, RoundFault, has_next, pick, round,
 };
 
-/// Draws a core with an operation left for each round, until none is left.
-pub(crate) fn draw_out(alloc: Global, machine: &mut Core, seed: u64) -> Result<(), SimulationFault>
+/// Draws a core with an operation left for each round, until none is left, and before each round a
+/// command where a seed for stress is given.
+pub(crate) fn draw_out(
+    alloc: Global,
+    machine: &mut Core,
+    seed: u64,
+    stress: Option<u64>,
+) -> Result<(), SimulationFault>
     ensures { MatchResult result
-        (λ _. IsDrawnOut seed machine.old machine.new)
-        (λ fault. IsDrawFault seed machine.old machine.new fault) }
+        (λ _. IsDrawnOut seed stress machine.old machine.new)
+        (λ fault. IsDrawFault seed stress machine.old machine.new fault) }
 {
     let mut generator = Pcg32::seed_from_u64(seed);
+    let mut between = generator_of(stress);
     let mut waits = [0; 64];
     let mut left = list_cores_left(alloc, machine)?;
     while !left.is_empty() {
-        let core = pick(&mut generator, left.as_slice());
+        let cores = left.as_slice();
+        disturb(machine, &mut between, cores)?;
+        let core = pick(&mut generator, cores);
         drawn_round(machine, core, &mut waits)?;
         strike_if_ended(machine, core, &mut left);
     }

@@ -2,6 +2,7 @@
 #![tactic(auto)]
 
 mod commands;
+mod disturbing;
 mod drawing;
 mod event_table;
 mod event_text;

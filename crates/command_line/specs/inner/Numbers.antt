@@ -8,7 +8,7 @@ use Rattle.command_line.specs.Asking.{IsNumber}
 abbrev pub number_names : List Text
 number_names =
     codes "workers" ∷ codes "slices" ∷ codes "lease" ∷ codes "period" ∷ codes "cache" ∷ codes "slice-lines" ∷ codes "inbox" ∷ codes "runs" ∷ codes "seed"
-    ∷ codes "budget" ∷ []
+    ∷ codes "stress" ∷ codes "budget" ∷ []
 
 abbrev pub takes_number : Text → Bool
 takes_number name = list_any (bytes_eq name) number_names

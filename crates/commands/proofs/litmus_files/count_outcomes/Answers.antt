@@ -50,7 +50,7 @@ returns-clause-exact g c =
       test,
       (
         collected,
-        subst (λ (m : Collected). IsTableBy asked.threads t (config_of asked.limits) asked.runs asked.seed m) same by,
+        subst (λ (m : Collected). IsTableBy asked.threads t (config_of asked.limits) asked.runs asked.seed asked.stress m) same by,
         (
           c.has_forbidden.ensures,
           c.in_ok-write_table.ensures.written,

@@ -84,7 +84,7 @@ returns-in_err-ended-clause-exact g c =
     let parsed : AreCommandsOf old.told asked.schedule (length set.programs) commands =
     subst (λ (f : Files). AreCommandsOf f.told asked.schedule (length set.programs) commands) c.in_ok-programs.ensures.quiet (search rules) in
     let is : c.from_residual-in_err-ended.result ≡ Err (Simulation c.in_err-ended.field-0.0) = search rules in
-    let fault : IsSimulationFault commands asked.seed (opening_parts set.programs (config_of asked.limits)) q c.in_err-ended.field-0.0 = search rules in
+    let fault : IsSimulationFault commands asked.seed asked.stress (opening_parts set.programs (config_of asked.limits)) q c.in_err-ended.field-0.0 = search rules in
     let many : c.len-2.result ≡ length set.programs = search rules in
     let same : c.log_format.result ≡ log_format set.format = search rules in
     let parts : c.slices.result ≡ asked.limits.slices = search rules in
@@ -114,7 +114,7 @@ returns-clause-exact g c =
     let read : AreProgramsIn old.told asked.programs.now set = search rules in
     let parsed : AreCommandsOf old.told asked.schedule (length set.programs) commands =
     subst (λ (f : Files). AreCommandsOf f.told asked.schedule (length set.programs) commands) c.in_ok-programs.ensures.quiet (search rules) in
-    let simulated : IsSimulated commands asked.seed (opening_parts set.programs (config_of asked.limits)) q = search rules in
+    let simulated : IsSimulated commands asked.seed asked.stress (opening_parts set.programs (config_of asked.limits)) q = search rules in
     let many : c.len-2.result ≡ length set.programs = search rules in
     let same : c.log_format.result ≡ log_format set.format = search rules in
     let parts : c.slices.result ≡ asked.limits.slices = search rules in

@@ -7,7 +7,7 @@ use Rattle.simulation.proofs.drawing.draw_out.Given as goal
 
 abbrev pub invariant-loop-generator : goal.invariant-loop-generator
 invariant-loop-generator l = record {
-  leads : Leads (draws_of l.seed) l.initial.machine (record { generator = l.generator; waits = l.waits }) l.machine;
+  leads : Leads (draws_of l.seed l.fn.stress) l.initial.machine (record { generator = l.generator; stress = l.between; waits = l.waits }) l.machine;
   left : l.left.items ≡ cores_left (world l.machine);
   long : length l.waits ≡ 64;
 }
