@@ -1,8 +1,7 @@
 -- What holds of the first of things that have places, one place after the other.
 use Rattle.std.specs.Prelude.{◌≡◌, ℕ, ◌+◌, ◌<◌, ◌≤◌, List, Option, Some, None, length, slice_get}
 use Rattle.std.specs.Global.{Vec}
-use Rattle.std.proofs.Common.{sym, ◌∙◌, ap, subst, inl, inr, arith, get_or}
-use Rattle.std.specs.Option.{option_map}
+use Rattle.std.proofs.Common.{rules, ap, arith, get_or}
 use Rattle.std.proofs.lemmas.Bool.{cases_lt}
 use Rattle.std.proofs.lemmas.Option.{none-some, same_Some, slice_get-map, slice_get-get_or, slice_get_within}
 use Rattle.mem_op.specs.declared.id.OpId.{OpId}
@@ -16,27 +15,18 @@ module _ {A : Type 0} (P : ℕ → A → Type 0) (at : ℕ → Option A) where
   First n = (k : ℕ) (x : A) → k < n → at k ≡ Some x → P k x
 
   pub first-more : {n : ℕ} (x : A) → at n ≡ Some x → First n → P n x → First (n + 1)
-  first-more {n} x here first holds k y below there = elim (cases_lt k n) [
-    | inl l ↦ first k y l there
-    | inr above ↦ (
-        let same : n ≡ k = omega arith in
-        subst (λ j. P j y) same (subst (P n) (same_Some x y (sym here ∙ ap at same ∙ there)) holds))
-  ]
+  first-more {n} x here first holds k y below there = search (rules, cases_lt, same_Some)
 
   -- nothing is there
   pub first-skip : {n : ℕ} → at n ≡ None → First n → First (n + 1)
-  first-skip {n} none first k y below there = elim (cases_lt k n) [
-    | inl l ↦ first k y l there
-    | inr above ↦ (let same : n ≡ k = omega arith in absurd (none-some y (sym none ∙ ap at same ∙ there)))
-  ]
+  first-skip {n} none first k y below there = search (rules, cases_lt, none-some)
 
 -- ---- the cores of a trace
 
 -- the operations of a core
 pub core_at : (cores : List (Vec Operation)) (n : ℕ) {trace : List (List Operation)} {core : Vec Operation} → operation_lists cores ≡ trace → core ≡ get_or cores n core
     → n < length cores → slice_get trace n ≡ Some core.items
-core_at cores n {trace} {core} same is l =
-    ap (λ t. slice_get t n) (sym same) ∙ slice_get-map (λ v. v.items) cores n ∙ ap (option_map (λ v. v.items)) (slice_get-get_or cores n core l ∙ ap Some (sym is))
+core_at cores n {trace} {core} same is l = search (rules, slice_get-map, slice_get-get_or)
 
 -- no core is after the last
 pub cores-all : (cores : List (Vec Operation)) (n : ℕ) {trace : List (List Operation)} → operation_lists cores ≡ trace → length cores ≤ n → length trace ≤ n

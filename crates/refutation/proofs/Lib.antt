@@ -1,6 +1,4 @@
 pub mod ClosedSound
-pub mod Covered
-pub mod DeadStates
 pub mod Firsts
 pub mod Fronts
 pub mod LastStores

@@ -1,6 +1,6 @@
 -- Lines of a text, one by one.
-use Rattle.std.proofs.Common.{◌≡◌, ℕ, ◌<◌, ◌^◌, Bool, true, false, List, [], ◌∷◌, ◌++◌, Option, Some, None, refl, sym, ap, ◌∙◌, append_assoc}
-use Rattle.std.specs.Prelude.{codes, flat_map, if◌then◌else◌}
+use Rattle.std.proofs.Common.{rules, ◌≡◌, ℕ, ◌<◌, ◌^◌, Bool, true, false, List, [], ◌∷◌, ◌++◌, Option, Some, None, refl, sym, ap, ◌∙◌, append_assoc}
+use Rattle.std.specs.Prelude.{codes, if◌then◌else◌}
 use Rattle.std.proofs.lemmas.List.{append_cancel_left}
 use Rattle.decimal_text.specs.Numbers.{numeral, as_u64}
 use Rattle.decimal_text.specs.Reading.{field_at, front_map}
@@ -9,16 +9,13 @@ use Rattle.decimal_text.proofs.Numbers.{as_u64_some}
 use Rattle.decimal_text.proofs.Reading.{field_again}
 use Rattle.mem_op.specs.declared.id.OpId.{OpId}
 use Rattle.refutation.specs.declared.step.Point.{Point}
-use Rattle.refutation.specs.declared.step.Point.TheVariants.{Init, At}
 use Rattle.refutation.specs.declared.step.Range.{Range}
 use Rattle.refutation.specs.declared.step.Step.{Step}
-use Rattle.refutation.specs.declared.step.Step.TheVariants.{Read, FromRead, WriteOrder, Cycle, States}
-use Rattle.refutation.specs.Grammar.{state_text, id_text, point_text, is_same_point, range_text, reason_text, fields_text, step_text, end_line}
+use Rattle.refutation.specs.Grammar.{id_text, point_text, is_same_point, range_text, reason_text, fields_text, step_text, end_line}
 use Rattle.refutation.specs.Texts.{NoStepInFront}
 use Rattle.refutation.specs.inner.Telling.{TellsLine}
-use Rattle.refutation.proofs.StateTexts.{states_no_lf}
+use Rattle.refutation.proofs.StateTexts.{numbers_no_lf, states_no_lf}
 use Rattle.text_lines.specs.Lines.{IsOneLine}
-use Rattle.text_lines.specs.Words.{spaced}
 use Rattle.text_lines.proofs.Fields.{number_no_lf}
 use Rattle.text_lines.proofs.SpacedWords.{spaced_no_lf}
 use Rattle.text_lines.proofs.TextLines.{first_line}
@@ -30,8 +27,7 @@ unfolding id_text
 id_no_lf id = NoLf-append (numeral id.core) (46 ∷ numeral id.index) (numeral_no_lf id.core) (refl, numeral_no_lf id.index)
 
 point_no_lf : (p : Point) → NoLf (point_text p)
-point_no_lf Init = const_no_lf (codes "init") refl
-point_no_lf (At id) = id_no_lf id
+point_no_lf p = search (rules, id_no_lf) depth 12
 
 range_no_lf : (range : Range) → NoLf (range_text range)
 unfolding range_text
@@ -43,18 +39,11 @@ range_no_lf range = NoLf-append (point_text range.first) _ (point_no_lf range.fi
 
 reason_no_lf : (source : ℕ) (write : OpId) (path : List ℕ) → NoLf (reason_text source write path)
 unfolding reason_text
-reason_no_lf source write path =
-    number_no_lf source (id_text write ++ (codes " :" ++ spaced numeral path)) (NoLf-append (id_text write) (codes " :" ++ spaced numeral path) (id_no_lf write) (refl, (refl, spaced_no_lf numeral numeral_no_lf path)))
+reason_no_lf source write path = search (rules, NoLf-append, number_no_lf, id_no_lf, numbers_no_lf) depth 12
 
 pub step_no_lf : (step : Step) → NoLf (step_text step)
 unfolding fields_text
-step_no_lf (Read read ranges) =
-    NoLf-append (codes "read ") (id_text read ++ (codes " :" ++ spaced range_text ranges)) (const_no_lf (codes "read ") refl)
-    (NoLf-append (id_text read) (codes " :" ++ spaced range_text ranges) (id_no_lf read) (refl, (refl, spaced_no_lf range_text range_no_lf ranges)))
-step_no_lf (FromRead source write path) = NoLf-append (codes "from-read ") (reason_text source write path) (const_no_lf (codes "from-read ") refl) (reason_no_lf source write path)
-step_no_lf (WriteOrder source write path) = NoLf-append (codes "write-order ") (reason_text source write path) (const_no_lf (codes "write-order ") refl) (reason_no_lf source write path)
-step_no_lf (Cycle path) = NoLf-append (codes "cycle :") (spaced numeral path) (const_no_lf (codes "cycle :") refl) (spaced_no_lf numeral numeral_no_lf path)
-step_no_lf (States addresses set) = NoLf-append (codes "states") (fields_text (States addresses set)) (const_no_lf (codes "states") refl) (NoLf-append (spaced numeral addresses) (flat_map state_text set) (spaced_no_lf numeral numeral_no_lf addresses) (states_no_lf set))
+step_no_lf step = search (rules, NoLf-append, id_no_lf, reason_no_lf, numbers_no_lf, states_no_lf, spaced_no_lf range_text range_no_lf) depth 16
 
 -- ---- the first line
 

@@ -1,7 +1,7 @@
 -- The next operations of cores, one core after the other, and where they lead.
-use Rattle.std.specs.Prelude.{◌≡◌, ℕ, ◌+◌, ◌≤◌, Bool, true, false, MatchBool, List, refl, Option, Some, None, length, ◌&&◌, IsTrue, slice_get, slice_index, slice_set}
+use Rattle.std.specs.Prelude.{◌≡◌, ℕ, ◌+◌, ◌≤◌, Bool, true, false, MatchBool, List, refl, Option, Some, None, length, ◌&&◌, IsTrue, slice_index, slice_set}
 use Rattle.std.specs.List.{list_all}
-use Rattle.std.proofs.Common.{sym, arith}
+use Rattle.std.proofs.Common.{rules, sym, arith}
 use Rattle.std.proofs.lemmas.Bool.{and_from}
 use Rattle.mem_op.specs.Consistency.{Operation, operation_at, word_left}
 use Rattle.mem_op.specs.declared.id.OpId.{OpId}
@@ -10,7 +10,6 @@ use Rattle.flat_replay.specs.Accesses.{address_of}
 use Rattle.refutation.specs.States.{next_id, word_of, put_word, fits, allows, next_of, words_of, IsIn, Waits, IsRightState}
 use Rattle.refutation.specs.declared.fact.Fact.{Fact}
 use Rattle.refutation.specs.declared.state.State.{State}
-use Rattle.refutation.specs.declared.state.State.TheVariants.{Open, Dead}
 use Rattle.refutation.proofs.Firsts.{First, first-more, first-skip}
 
 module _ (cores : List (List Operation)) (numbers : List ℕ) (P : ℕ → Operation → Type 0) where
@@ -33,15 +32,7 @@ module _ (cores : List (List Operation)) (numbers : List ℕ) (P : ℕ → Opera
 
   -- one core more, without an operation there
   pub ones-skip : {is_one : Bool} {n : ℕ} → FirstOnes is_one n → there n ≡ None → FirstOnes is_one (n + 1)
-  ones-skip first nothing = record {
-    some = first.some;
-    none = λ e. first-skip (λ core y. ⊥) there nothing (first.none e);
-    each = first-skip P there nothing first.each;
-  }
-
-  -- one core more, with one of which P holds
-  pub ones-more : {is_one : Bool} {n : ℕ} (y : Operation) → FirstOnes is_one n → there n ≡ Some y → P n y → FirstOnes true (n + 1)
-  ones-more {is_one} {n} y first here holds = record { some = λ e. (n, y, here); none = λ e. absurd cc; each = first-more P there y here first.each holds }
+  ones-skip first nothing = search (rules, first-skip)
 
   -- what is known of all cores
   pub ones-told : {R : Type 0} (is_one : Bool) (n : ℕ) → length cores ≤ n → FirstOnes is_one n → (HasOne → Each → R) → (R → HasOne) → MatchBool is_one R (R → ⊥)
@@ -69,18 +60,9 @@ module _ (cores : List (List Operation)) (facts : List Fact) (addresses : List �
       → ((fits (word_of addresses (words_of state) (address_of y)) y && list_all (allows (next_of state) id) facts) ≡ true
       → IsIn cores addresses InSet (slice_set (next_of state) id.core (id.index + 1)) (put_word addresses (words_of state) (address_of y) (word_left y)))
       → FirstOnes cores (next_of state) (LeadsInto InSet state) true (n + 1)
-  leads-more InSet state id y first is there leads =
-      let into = rw is at leads in
-      ones-more cores (next_of state) (LeadsInto InSet state) y first there (λ fit allowed. into (and_from _ _ fit allowed))
-
-  -- ---- whole sets
-
-  -- the states of the first places are right
-  abbrev pub FirstRight : (List ℕ → List ℕ → Type 0) → List State → ℕ → Type 0
-  FirstRight InSet states n = First (λ number state. IsRightState cores facts addresses InSet state) (slice_get states) n
+  leads-more InSet state id y first is there leads = search (rules, first-more, and_from)
 
   -- a state is right in a larger set
   pub right-in-other : (One Other : List ℕ → List ℕ → Type 0) → ((next words : List ℕ) → One next words → Other next words) → (state : State)
       → IsRightState cores facts addresses One state → IsRightState cores facts addresses Other state
-  right-in-other One Other same (Open next words) leads = record { left = leads.left; back = λ core y there fit allowed. same _ _ (leads.back core y there fit allowed) }
-  right-in-other One Other same (Dead next words limits) dead = dead
+  right-in-other One Other same state right = search rules

@@ -1,23 +1,20 @@
 -- A text is that of one refutation, and has one first bad line.
-use Rattle.std.proofs.Common.{◌≡◌, ℕ, ◌<◌, ◌^◌, List, [], ◌∷◌, ◌++◌, length, refl, sym, ap, ◌∙◌, arith, inl, inr, append-nil}
+use Rattle.std.proofs.Common.{rules, ◌≡◌, ℕ, ◌<◌, ◌^◌, List, [], ◌++◌, length, refl, sym, ap, ◌∙◌, inl, inr, append-nil}
 use Rattle.std.specs.Prelude.{codes}
 use Rattle.std.proofs.lemmas.List.{append_cancel_left}
-use Rattle.decimal_text.specs.Numbers.{numeral}
 use Rattle.std.proofs.lemmas.Option.{some_pair_parts}
 use Rattle.mem_op.specs.declared.id.OpId.{OpId}
 use Rattle.refutation.specs.declared.fault.CertificateFault.{CertificateFault}
 use Rattle.refutation.specs.declared.fault.CertificateFault.TheVariants.{BadCertificate, OutOfMemory}
 use Rattle.refutation.specs.declared.step.Step.{Step}
-use Rattle.refutation.specs.declared.step.Step.TheVariants.{Read, FromRead, WriteOrder, Cycle, States}
-use Rattle.refutation.specs.Grammar.{id_text, reason_text, name_text, fields_text, step_text, steps_text, header_line, end_line, IdFits, PathFits, Fits}
+use Rattle.refutation.specs.Grammar.{id_text, reason_text, name_text, fields_text, step_text, steps_text, end_line, IdFits, PathFits, Fits}
 use Rattle.refutation.specs.Texts.{Spells, NoStepInFront, Begins, EndsBadly, IsFirstMisshapen, IsFault}
 use Rattle.refutation.specs.TextLaws.{SpelledIsRead, AtMostOneFault}
-use Rattle.refutation.specs.inner.Reading.{named_at, source_at}
+use Rattle.refutation.specs.inner.Reading.{named_at}
 use Rattle.refutation.proofs.Lines.{step_no_lf}
 use Rattle.refutation.proofs.Parts.{named_again, ranges_are_words}
 use Rattle.refutation.proofs.StateTexts.{sets-once}
-use Rattle.refutation.proofs.StepLines.{first_of, name_of, name_first}
-use Rattle.text_lines.specs.Words.{spaced}
+use Rattle.refutation.proofs.StepLines.{name_first}
 use Rattle.text_lines.proofs.Fields.{field_below_again}
 use Rattle.text_lines.proofs.Items.{AreLines, cut_once}
 use Rattle.text_lines.proofs.SpacedWords.{numbers_are_words, spaced_once}
@@ -29,35 +26,14 @@ named-once {a} {b} {xs} {ys} p q e = some_pair_parts _ _ _ _ (sym (named_again a
 
 reason-once : (s t : ℕ) (v w : OpId) (p q : List ℕ) → (s < 2 ^ 64) × IdFits v × PathFits p → (t < 2 ^ 64) × IdFits w × PathFits q → reason_text s v p ≡ reason_text t w q → (s ≡ t) × (v ≡ w) × (p ≡ q)
 unfolding reason_text
-reason-once s t v w p q f g e =
-    let xs = id_text v ++ (codes " :" ++ spaced numeral p) in
-    let ys = id_text w ++ (codes " :" ++ spaced numeral q) in
-    let same = some_pair_parts _ _ _ _ (sym (field_below_again (2 ^ 64) s xs f.0) ∙ ap source_at e ∙ field_below_again (2 ^ 64) t ys g.0) in
-    let rest = named-once f.1 g.1 same.1 in
-    (same.0, rest.0, spaced_once numbers_are_words p q f.2 g.2 rest.1)
+reason-once s t v w p q f g e = search (rules, some_pair_parts, field_below_again, named-once, spaced_once, numbers_are_words)
 
 fields-once : (a b : Step) → Fits a → Fits b → name_text a ≡ name_text b → fields_text a ≡ fields_text b → a ≡ b
 unfolding fields_text
-fields-once (Read read ranges) (Read read2 ranges2) p q name e =
-    let same = named-once p.0 q.0 e in
-    let rest = spaced_once ranges_are_words ranges ranges2 p.1 q.1 same.1 in
-    λ i. Read (same.0 i) (rest i)
-fields-once (FromRead source write path) (FromRead source2 write2 path2) p q name e =
-    let same = reason-once source source2 write write2 path path2 p q e in
-    λ i. FromRead (same.0 i) (same.1 i) (same.2 i)
-fields-once (WriteOrder source write path) (WriteOrder source2 write2 path2) p q name e =
-    let same = reason-once source source2 write write2 path path2 p q e in
-    λ i. WriteOrder (same.0 i) (same.1 i) (same.2 i)
-fields-once (Cycle path) (Cycle path2) p q name e = ap (λ xs. Cycle xs) (spaced_once numbers_are_words path path2 p q e)
-fields-once (States addresses set) (States addresses2 set2) p q name e =
-    let same = sets-once addresses addresses2 set set2 p q e in
-    λ i. States (same.0 i) (same.1 i)
-fields-once a b p q name e = absurd (let w = ap first_of name in omega (arith, w))
+fields-once a b p q name e = search (rules, named-once, spaced_once, ranges_are_words, reason-once, numbers_are_words, sets-once)
 
 step-once : (a b : Step) → Fits a → Fits b → step_text a ≡ step_text b → a ≡ b
-step-once a b p q e =
-    let name : name_text a ≡ name_text b = sym (name_first a (fields_text a)) ∙ ap (λ (xs : List ℕ). name_of (first_of xs)) e ∙ name_first b (fields_text b) in
-    fields-once a b p q name (append_cancel_left (name_text a) (fields_text a) (fields_text b) (e ∙ ap (λ (xs : List ℕ). xs ++ fields_text b) (sym name)))
+step-once a b p q e = search (rules, name_first, fields-once, append_cancel_left)
 
 -- ---- one text
 
@@ -66,19 +42,11 @@ step_lines = record { no_lf = step_no_lf; once = step-once }
 
 -- the `end` line is no step's
 end-no_step : (count : ℕ) → NoStepInFront (end_line count)
-end-no_step count step rest there = other step (ap first_of there.1)
-  where
-    other : (s : Step) → 101 ≡ first_of (step_text s ++ 10 ∷ rest) → ⊥
-    other (Read read ranges) e = omega arith
-    other (FromRead source write path) e = omega arith
-    other (WriteOrder source write path) e = omega arith
-    other (Cycle path) e = omega arith
-    other (States addresses set) e = omega arith
+end-no_step count = search rules
 
 -- what begins with the header does so in one way
 begun-once : (bytes : List ℕ) (p q : List Step) (xs ys : List ℕ) → Begins bytes p xs → Begins bytes q ys → (p ≡ q) × (xs ≡ ys)
-begun-once bytes p q xs ys a b =
-    cut_once step_lines p q xs ys a.each_fits b.each_fits a.none_in_front b.none_in_front (append_cancel_left header_line (steps_text p ++ xs) (steps_text q ++ ys) (sym a.text ∙ b.text))
+begun-once bytes p q xs ys a b = search (rules, cut_once, step_lines, append_cancel_left)
 
 spelled-begun : (bytes : List ℕ) (steps : List Step) → Spells bytes steps → Begins bytes steps (end_line (length steps))
 spelled-begun bytes steps spells = record { each_fits = spells.0; text = spells.1; none_in_front = end-no_step (length steps) }
@@ -90,10 +58,7 @@ ends-well count line (inr more) = more.1.1 (sym (append_cancel_left (end_line co
 
 -- where it ends badly is told once
 ends-once : (rest : List ℕ) (count j k : ℕ) → EndsBadly rest count j → EndsBadly rest count k → j ≡ k
-ends-once rest count j k (inl a) (inl b) = a.0 ∙ sym b.0
-ends-once rest count j k (inl a) (inr b) = absurd (a.1 b.1.0 b.1.2)
-ends-once rest count j k (inr a) (inl b) = absurd (b.1 a.1.0 a.1.2)
-ends-once rest count j k (inr a) (inr b) = a.0 ∙ sym b.0
+ends-once rest count j k a b = search rules
 
 no-fault : (bytes : List ℕ) (steps : List Step) (fault : CertificateFault) → Spells bytes steps → IsFault bytes fault → fault ≡ OutOfMemory
 no-fault bytes steps OutOfMemory spells bad = refl

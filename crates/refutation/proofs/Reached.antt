@@ -1,21 +1,23 @@
 -- The states that can be reached: those that the first operations of some order lead to.
-use Rattle.std.specs.Prelude.{◌≡◌, ℕ, zero, suc, ◌+◌, ◌<◌, ◌≤◌, ◌⊎◌, true, List, [], ◌∷◌, ◌++◌, Option, None, Some, map, length, take, drop, slice_get, slice_index, slice_set, refl}
-use Rattle.std.specs.List.{prefix_len}
+use Rattle.std.specs.Prelude.{◌≡◌, ◌⊎◌, ℕ, zero, suc, ◌+◌, ◌<◌, ◌≤◌, true, List, [], ◌∷◌, ◌++◌, Some, map, length, take, drop, slice_get, slice_index, slice_set, refl}
+use Rattle.std.specs.List.{prefix_len, range_with_len}
 use Rattle.std.proofs.Common.{sym, ◌∙◌, ap, subst, inl, inr, arith, get_or}
-use Rattle.std.proofs.lemmas.Bool.{cases_lt}
+use Rattle.std.proofs.Math.ListN.{get_or-map}
+use Rattle.std.proofs.lemmas.Bool.{cases_order}
 use Rattle.std.proofs.lemmas.Bool.Decides.{nat_tests}
-use Rattle.std.proofs.lemmas.List.{get_or-set_same, length-set, length-map, length-drop, take_all, set-get_or, set-set, get_or-map, get_or-drop}
-use Rattle.std.proofs.lemmas.Grind.{same_number_lists}
+use Rattle.std.proofs.lemmas.List.{get_or-set_same, length-set, length-map, length-drop, take_all, set-get_or, set-set, get_or-drop}
 use Rattle.std.proofs.lemmas.List.Sums.{prefix_len-le-length, prefix_len_passes}
-use Rattle.std.proofs.lemmas.Option.{same_Some, slice_get-get_or, slice_get_within, get_or_from_slice_get}
+use Rattle.std.proofs.lemmas.Option.{same_Some, slice_get-get_or, slice_get_within}
+use Rattle.log_record.proofs.EntryFacts.{same_id}
 use Rattle.mem_op.specs.declared.id.OpId.{OpId}
-use Rattle.mem_op.specs.Consistency.{Operation, Stored, operation_at, word_left, last_value, IsSequentialOrder}
+use Rattle.mem_op.specs.Consistency.{Operation, Stored, operation_at, word_left}
 use Rattle.flat_replay.specs.Accesses.{address_of}
-use Rattle.flat_replay.proofs.Replaying.{done, replayed-all}
+use Rattle.flat_replay.specs.Memory.{after}
+use Rattle.flat_replay.proofs.Replaying.{Replayed, replayed-more}
+use Rattle.flat_replay.proofs.Turns.{within_cores}
 use Rattle.refutation.specs.States.{word_of, put_word, fits, passes, settled, next_id}
-use Rattle.refutation.proofs.Firsts.{First, first-skip}
-use Rattle.refutation.proofs.Runs.{set-le, zeros, zeros-at, Ran, ran-none, ran-more, fits-read, fits-answered, after-here, after-idle}
-use Rattle.refutation.proofs.Settled.{word-put, word-zero, passes-is, passing, core-of, at-core, more-settled}
+use Rattle.refutation.proofs.Runs.{raised, below-raised, fits-read, fits-answered}
+use Rattle.refutation.proofs.Settled.{words_after, right-after, word-zero, passes-is, passing, at-core, more-settled}
 
 put-same : (addresses words : List ℕ) (addr w : ℕ) → word_of addresses words addr ≡ Some w → put_word addresses words addr w ≡ words
 put-same [] words addr w e = refl
@@ -34,57 +36,51 @@ unsettled addresses words [] next (suc k) = refl
 unsettled addresses words (zs ∷ some) [] (suc k) = refl
 unsettled addresses words (zs ∷ some) (n ∷ next) (suc k) = unsettled addresses words some next k
 
-pub lengths-at : (cores : List (List Operation)) (core : ℕ) (ys : List Operation) → slice_get cores core ≡ Some ys → slice_index (map length cores) core ≡ length ys
-lengths-at cores core ys own = get_or-map length cores core [] 0 (slice_get_within cores core ys own) ∙ ap length (get_or_from_slice_get cores core ys [] own)
-
 module _ (cores : List (List Operation)) (addresses : List ℕ) where
   -- the first operations of an order lead to a state
   pub record Reached (next words : List ℕ) : Type 0 where
     pub ids : List OpId
+    pub memory : ℕ → ℕ
     pub many : length next ≡ length cores
     pub size : length addresses ≡ length words
-    pub ran : Ran cores ids next
-    pub right : (a w : ℕ) → word_of addresses words a ≡ Some w → w ≡ last_value a (done cores ids)
-    pub short : (core : ℕ) → slice_index next core ≤ slice_index (map length cores) core
+    pub ran : Replayed cores ids next memory
+    pub right : (a w : ℕ) → word_of addresses words a ≡ Some w → w ≡ memory a
+    pub there : (id : OpId) → id.index < slice_index next id.core → (y : Operation) × (operation_at cores id ≡ Some y)
 
-  pub reach-more : (next words : List ℕ) → Reached next words → (core : ℕ) (y : Operation) → operation_at cores (next_id next core) ≡ Some y → (w : ℕ) → word_of addresses words (address_of y) ≡ Some w → fits (Some w) y ≡ true
-      → Reached (slice_set next core (slice_index next core + 1)) (put_word addresses words (address_of y) (word_left y))
-  reach-more next words reached core y there w looked fit =
-      let memory : ℕ → ℕ = λ a. last_value a (done cores reached.ids) in
-      let id = next_id next core in
-      let own = core-of cores id y there in
-      let is = fits-answered memory y w (reached.right (address_of y) w looked) fit in
-      let more = ran-more cores reached.ids next id y reached.ran reached.many there refl is in
+  pub reach-more : (next words : List ℕ) → Reached next words → (core : ℕ) (y : Operation) → operation_at cores (next_id next core) ≡ Some y
+      → fits (word_of addresses words (address_of y)) y ≡ true → Reached (raised next core) (words_after addresses words y)
+  reach-more next words reached core y there fit =
+      let many = reached.many in
+      let within : core < length next = (let l = within_cores cores (next_id next core) y (sym there) in omega arith) in
+      let is = fits-answered reached.memory y (word_of addresses words (address_of y)) (reached.right (address_of y)) fit in
+      let after_y = after y reached.memory in
       record {
-        ids = reached.ids ++ id ∷ [];
-        many = length-set next core (slice_index next core + 1) ∙ reached.many;
+        ids = reached.ids ++ next_id next core ∷ [];
+        memory = after_y;
+        many = length-set next core (slice_index next core + 1) ∙ many;
         size = length-put addresses words (address_of y) (word_left y) reached.size;
-        ran = more.ran;
-        right = λ a v e. elim (word-put addresses words (address_of y) a (word_left y) v e) [
-          | inl here ↦ here.1 ∙ sym (more.left a ∙ after-here memory y a is here.0)
-          | inr other ↦ reached.right a v other.1 ∙ sym (more.left a ∙ after-idle memory y a is (λ here. absurd (other.0 here)))
+        ran = replayed-more cores reached.ids next reached.memory after_y (next_id next core) y reached.ran (sym there) within refl is (λ a. refl);
+        right = right-after addresses words reached.memory y is reached.right;
+        there = λ id low. elim (below-raised next core id.core id.index within low) [
+          | inl below ↦ reached.there id below
+          | inr same ↦ (y, ap (operation_at cores) (same_id id (next_id next core) same.0 same.1) ∙ there)
         ];
-        short = λ k. (
-            let within = slice_get_within cores core own.0 own.1 in
-            let many = reached.many in
-            let below = slice_get_within own.0 (slice_index next core) y own.2 in
-            let size = lengths-at cores core own.0 own.1 in
-            set-le next (map length cores) core (slice_index next core + 1) k (omega arith) (omega arith) (reached.short k));
       }
-
-  -- an operation that passes leads to a state of the same words
-  reach-pass : (next words : List ℕ) → Reached next words → (core : ℕ) (y : Operation) → operation_at cores (next_id next core) ≡ Some y → (w : ℕ) → word_of addresses words (address_of y) ≡ Some w → passes (Some w) y ≡ true
-      → Reached (slice_set next core (slice_index next core + 1)) words
-  reach-pass next words reached core y there w looked pass =
-      let is = passes-is w y pass in
-      subst (Reached (slice_set next core (slice_index next core + 1))) (put-same addresses words (address_of y) (word_left y) (looked ∙ ap Some (sym is.1)))
-      (reach-more next words reached core y there w looked (fits-read w y (λ v read. same_Some v w (sym read ∙ is.0))))
 
   -- ---- settling
 
   -- each operation is looked at
   abbrev pub LookedAt : List ℕ → Type 0
   LookedAt words = (id : OpId) (y : Operation) → operation_at cores id ≡ Some y → (w : ℕ) × (word_of addresses words (address_of y) ≡ Some w)
+
+  -- an operation that passes leads to a state of the same words
+  reach-pass : (next words : List ℕ) → Reached next words → LookedAt words → (core : ℕ) (y : Operation)
+      → operation_at cores (next_id next core) ≡ Some y → passing addresses words y ≡ true → Reached (raised next core) words
+  reach-pass next words reached looked core y there pass =
+      let w = looked (next_id next core) y there in
+      let is = passes-is w.0 y (ap (λ o. passes o y) (sym w.1) ∙ pass) in
+      subst (Reached (raised next core)) (put-same addresses words (address_of y) (word_left y) (w.1 ∙ ap Some (sym is.1)))
+      (reach-more next words reached core y there (ap (λ o. fits o y) w.1 ∙ fits-read w.0 y (λ v read. same_Some v w.0 (sym read ∙ is.0))))
 
   settle-core : (words : List ℕ) → LookedAt words → (core : ℕ) (ys : List Operation) → slice_get cores core ≡ Some ys → (next : List ℕ) → Reached next words
       → (k : ℕ) → k ≤ prefix_len (passing addresses words) (drop (slice_index next core) ys) → Reached (slice_set next core (slice_index next core + k)) words
@@ -100,11 +96,10 @@ module _ (cores : List (List Operation)) (addresses : List ℕ) where
       let many = reached.many in
       let here : slice_index far core ≡ n + k = get_or-set_same next core (n + k) 0 (omega arith) in
       let there = at-core cores core (slice_index far core) ys own ∙ ap (slice_get ys) here ∙ slice_get-get_or ys (n + k) (Stored 0 0) below in
-      let w = looked (next_id far core) y there in
       let pass = ap (passing addresses words) (sym (get_or-drop n ys k (Stored 0 0))) ∙ prefix_len_passes (passing addresses words) (drop n ys) k (Stored 0 0) (omega arith) in
       subst (λ xs. Reached xs words)
       (ap (λ m. slice_set far core (m + 1)) here ∙ set-set next core (n + k) (n + k + 1) ∙ ap (slice_set next core) (let e : n + k + 1 ≡ n + suc k = omega arith in e))
-      (reach-pass far words (settle-core words looked core ys own next reached k (omega arith)) core y there w.0 w.1 (ap (λ o. passes o y) (sym w.1) ∙ pass))
+      (reach-pass far words (settle-core words looked core ys own next reached k (omega arith)) looked core y there pass)
 
   reach-settling : (next words : List ℕ) → Reached next words → LookedAt words → (k : ℕ) → k ≤ length cores → Reached (settled addresses words (take k cores) next) words
   reach-settling next words reached looked zero l = reached
@@ -120,47 +115,37 @@ module _ (cores : List (List Operation)) (addresses : List ℕ) where
   reach-settled next words reached looked =
       subst (λ cs. Reached (settled addresses words cs next) words) (take_all (length cores) cores (omega arith)) (reach-settling next words reached looked (length cores) (omega arith))
 
-  pub reach-first : Reached (zeros cores) (zeros addresses)
+  pub reach-first : Reached (map (λ _. 0) cores) (map (λ _. 0) addresses)
   reach-first = record {
     ids = [];
+    memory = λ a. 0;
     many = length-map cores (λ _. 0);
     size = sym (length-map addresses (λ _. 0));
-    ran = ran-none cores;
+    ran = record {
+      turn = λ core. ap (range_with_len 0) (sym (get_or-map (λ _. 0) cores core []));
+      flat = record { loads = λ k addr value e. absurd cc; swaps = λ k addr read stored e. absurd cc };
+      words = λ a. refl;
+    };
     right = λ a w e. word-zero addresses a w e;
-    short = λ core. (let e = zeros-at cores core in omega arith);
+    there = λ id low. absurd (let e : slice_index (map (λ _. 0) cores) id.core ≡ 0 = get_or-map (λ _. 0) cores id.core [] in omega arith);
   }
 
-  -- ---- the last states
-
-  -- one of the first cores has an operation left, or none has
-  abbrev pub NoneLeft : List ℕ → ℕ → Type 0
-  NoneLeft next k = First (λ core y. ⊥) (λ core. operation_at cores (next_id next core)) k
-
-  abbrev SomeLeft : List ℕ → ℕ → Type 0
-  SomeLeft next k = ((core : ℕ) × (y : Operation) × (operation_at cores (next_id next core) ≡ Some y)) ⊎ NoneLeft next k
-
-  pub some-left : (next : List ℕ) (k : ℕ) → SomeLeft next k
-  some-left next zero = inr (λ core y l. absurd (omega arith))
-  some-left next (suc k) = look (operation_at cores (next_id next k)) refl (some-left next k)
-    where
-      look : (o : Option Operation) → operation_at cores (next_id next k) ≡ o → SomeLeft next k → SomeLeft next (suc k)
-      look o e (inl found) = inl found
-      look (Some y) e (inr none) = inl (k, y, e)
-      look None e (inr none) = inr (λ core y l. first-skip _ _ e none core y (omega arith))
-
-  -- where no core has an operation left, the order is whole
-  pub whole-order : (next words : List ℕ) → (reached : Reached next words) → NoneLeft next (length cores) → IsSequentialOrder cores reached.ids
-  whole-order next words reached none =
-      (replayed-all cores reached.ids next (λ a. last_value a (done cores reached.ids)) reached.ran reached.many).0
-      (same_number_lists next (map length cores) (reached.many ∙ sym (length-map cores length)) (λ core l. each core (let m = reached.many in omega arith)))
-    where
-      each : (core : ℕ) → core < length cores → slice_index next core ≡ slice_index (map length cores) core
-      each core l =
-          let ys = get_or cores core [] in
-          let own : slice_get cores core ≡ Some ys = slice_get-get_or cores core [] l in
-          let low = reached.short core in
-          let size = lengths-at cores core ys own in
-          elim (cases_lt (slice_index next core) (length ys)) [
-            | inr above ↦ omega arith
-            | inl below ↦ absurd (none core _ l (at-core cores core (slice_index next core) ys own ∙ slice_get-get_or ys _ (Stored 0 0) below))
-          ]
+-- where each operation below these indices is there, they are the ends of all cores, or some core has an operation left
+pub some-left : (cores : List (List Operation)) (next : List ℕ) → length next ≡ length cores
+    → ((id : OpId) → id.index < slice_index next id.core → (y : Operation) × (operation_at cores id ≡ Some y))
+    → (next ≡ map length cores) ⊎ ((core : ℕ) × (y : Operation) × (operation_at cores (next_id next core) ≡ Some y))
+some-left [] [] many there = inl refl
+some-left (ys ∷ cores) (n ∷ next) many there = elim (cases_order n (length ys)) [
+  | inl all ↦ elim (some-left cores next (omega arith) (λ id. there (record { core = suc id.core; index = id.index }))) [
+    | inl rest ↦ inl (λ i. all i ∷ rest i)
+    | inr found ↦ inr (suc found.0, found.1, found.2)
+  ]
+  | inr apart ↦ elim apart [
+    | inl below ↦ inr (0, get_or ys n (Stored 0 0), slice_get-get_or ys n (Stored 0 0) below)
+    | inr above ↦ absurd (
+        let past = there (record { core = 0; index = length ys }) above in
+        let wrong = slice_get_within ys (length ys) past.0 past.1 in
+        omega arith)
+  ]
+]
+some-left cores next many there = absurd (omega arith)

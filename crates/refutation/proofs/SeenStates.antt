@@ -4,11 +4,12 @@ use Rattle.std.specs.List.{list_any}
 use Rattle.std.specs.Global.{Vec}
 use Rattle.std.specs.BTreeSet.{BTreeSet, insert_key}
 use Rattle.std.specs.Cmp.Lexicographic.{nat_list_cmp_total, slice_cmp}
-use Rattle.std.specs.Ordering.{is_eq, match_ordering, nat_cmp, ordering_then}
+use Rattle.std.specs.Ordering.{is_eq, nat_cmp, ordering_then}
 use Rattle.std.specs.declared.cmp.Ordering.{Ordering}
-use Rattle.std.specs.declared.cmp.Ordering.TheVariants.{Less, Equal, Greater}
-use Rattle.std.proofs.Common.{sym, ◌∙◌, ap, get_or}
-use Rattle.std.proofs.Math.Bool.{or_assoc, or_comm, or_self_left}
+use Rattle.std.specs.declared.cmp.Ordering.TheVariants.{Equal}
+use Rattle.std.proofs.lemmas.Grind.{common_steps}
+use Rattle.std.proofs.Common.{rules, arith, sym, ◌∙◌, ap, get_or}
+use Rattle.std.proofs.Math.Bool.{or_comm}
 use Rattle.std.proofs.lemmas.Cmp.{tied_itself}
 use Rattle.std.proofs.lemmas.List.Folds.{Any-from_list_any, list_any_more}
 use Rattle.std.proofs.lemmas.Map.Keys.{any_passes_from_place}
@@ -28,12 +29,10 @@ abbrev pub same_as : List ℕ → List ℕ → List ℕ → List ℕ → Bool
 same_as next words n v = is_eq (ordering_then (by_lists next n) (by_lists words v))
 
 same-is : (next words n v : List ℕ) → same_as next words n v ≡ true → (next ≡ n) × (words ≡ v)
-same-is next words n v e =
-    let same = tells_apart (exact_pairs by_lists by_lists exact_bytes exact_bytes) (next, words) (n, v) e in
-    (ap (λ (p : List ℕ × List ℕ). p.0) same, ap (λ (p : List ℕ × List ℕ). p.1) same)
+same-is next words n v e = search (rules, tells_apart, exact_pairs, exact_bytes)
 
 same-self : (next words : List ℕ) → same_as next words next words ≡ true
-same-self next words = rw (tied_itself nat_list_cmp_total next, tied_itself nat_list_cmp_total words) refl
+same-self next words = search (rules, tied_itself nat_list_cmp_total)
 
 -- ---- one key more
 
@@ -47,19 +46,11 @@ abbrev is_key : List ℕ → List ℕ → Key → Bool
 is_key next words k = same_as next words k.0.items k.1.items
 
 tied : (next words : List ℕ) (j k : Key) → by_keys j k ≡ Equal → is_key next words j ≡ is_key next words k
-tied next words j k e = let same = same-is j.0.items j.1.items k.0.items k.1.items (ap is_eq e) in rw (same.0, same.1) refl
+tied next words j k e = search (rules, same-is)
 
 any-insert : (test : Key → Bool) → ((j k : Key) → by_keys j k ≡ Equal → test j ≡ test k) → (key : Key) (keys : List Key) → list_any test (insert_key by_keys keys key) ≡ (test key || list_any test keys)
 any-insert test tie key [] = refl
-any-insert test tie key (k ∷ keys) = go (by_keys key k) refl (any-insert test tie key keys)
-  where
-    go : (o : Ordering) → by_keys key k ≡ o → list_any test (insert_key by_keys keys key) ≡ (test key || list_any test keys)
-        → list_any test (match_ordering o (key ∷ k ∷ keys) (k ∷ keys) (k ∷ insert_key by_keys keys key)) ≡ (test key || (test k || list_any test keys))
-    go Less e later = refl
-    go Equal e later = sym (or_self_left (test k) (list_any test keys)) ∙ ap (λ b. b || (test k || list_any test keys)) (sym (tie key k e))
-    go Greater e later =
-        ap (λ b. test k || b) later ∙ sym (or_assoc (test k) (test key) _) ∙ ap (λ b. b || list_any test keys) (or_comm (test k) (test key))
-        ∙ or_assoc (test key) (test k) _
+any-insert test tie key (k ∷ keys) = let later = any-insert test tie key keys in let same = tie key k in grind (arith, common_steps)
 
 -- the states so far
 abbrev pub is_state : List ℕ → List ℕ → State → Bool
@@ -84,7 +75,4 @@ any-has next words states e =
 
 pub all-among : (keys : BTreeSet Key) (states : List State) → ((next words : List ℕ) → is_among keys next words ≡ list_any (is_state next words) states)
     → (next words : List ℕ) → (IsTrue (is_among keys next words) → Has states next words) × (Has states next words → IsTrue (is_among keys next words))
-all-among keys states all next words = (
-  λ t. any-has next words states (sym (all next words) ∙ t),
-  λ has. all next words ∙ any_passes_from_place (is_state next words) states has.number has.state has.there (rw (has.next_is, has.words_is) (same-self next words)),
-)
+all-among keys states all next words = search (rules, any-has, any_passes_from_place, same-self)

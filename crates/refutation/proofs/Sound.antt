@@ -61,7 +61,7 @@ module _ (cores : List (List Operation)) (time : Point → ℕ) (timing : IsTimi
   leads-later : (facts : List Fact) → AllHold cores time facts → (from : Point) (path : List ℕ) (to : Point) → Leads facts from path to → time from + length path ≤ time to
   leads-later facts all from [] to leads = let l = timing.program from to leads in omega arith
   leads-later facts all from (number ∷ path) to leads =
-      let parts = leads-parts facts from to number path leads in
+      let parts = leads-parts facts from to path (slice_get facts number) leads in
       let first = timing.program from (earlier_of parts.0) parts.2 in
       let step = order-of cores time parts.0 (all number parts.0 parts.1) in
       let more = leads-later facts all (later_of parts.0) path to parts.3 in
@@ -85,16 +85,10 @@ module _ (cores : List (List Operation)) (time : Point → ℕ) (timing : IsTimi
     not-last same = other.not_last (sym (timing.apart write other.writing last other.at_write same))
 
     read-first : time last ≤ time (At write) → time (At read) < time (At write)
-    read-first after = elim aside [
-      | inl l ↦ absurd (not-last (omega arith))
-      | inr r ↦ (let apart = not-read in omega arith)
-    ]
+    read-first after = let a = aside in let b = not-last in let c = not-read in omega arith
 
     write-first : time (At write) ≤ time (At read) → time (At write) < time last
-    write-first before = elim aside [
-      | inl l ↦ (let apart = not-last in omega arith)
-      | inr r ↦ absurd (not-read (omega arith))
-    ]
+    write-first before = let a = aside in let b = not-last in let c = not-read in omega arith
 
   -- the source lies in one of the ranges, so its fact holds
   source-one : (read : OpId) (y : Operation) (there : operation_at cores read ≡ Some y) (source : Point) → time source < time (At read) → NoStoreBetween cores time (address_of y) source (time (At read))

@@ -45,17 +45,12 @@ part each stops text = record { each = each; text = text; none = stops.0; ends =
 
 pub part-once : {sign bytes other xs ys rest more : List ℕ} → bytes ≡ other → PartInFront sign bytes xs rest → PartInFront sign other ys more
     → (xs ≡ ys) × (rest ≡ more)
-part-once {sign} {bytes} {other} {xs} {ys} {rest} {more} same a b =
-    words_once numbers_are_words xs ys rest more a.each b.each (λ some. a.ends) (λ some. b.ends) a.none b.none
-    (append_cancel_left sign (spaced numeral xs ++ rest) (spaced numeral ys ++ more) (sym a.text ∙ same ∙ b.text))
+part-once {sign} {bytes} {other} {xs} {ys} {rest} {more} same a b = search (rules, words_once, numbers_are_words, append_cancel_left)
 
 -- none, where a word goes on after the numbers
 pub part-goes-on : {sign bytes fields xs rest : List ℕ} → bytes ≡ sign ++ fields → WordsSoFar numeral (λ number. number < 2 ^ 64) fields xs rest
     → spaced_number rest ≡ None → (ends_word rest ≡ true → ⊥) → NoPartInFront sign bytes
-part-goes-on {sign} {bytes} {fields} {xs} {rest} is far none stop ys more b =
-    let same = append_cancel_left sign fields (spaced numeral ys ++ more) (sym is ∙ b.text) in
-    let once = words_once numbers_are_words xs ys rest more far.each b.each far.ends (λ some. b.ends) none b.none (sym far.text_is ∙ same) in
-    stop (ap ends_word once.1 ∙ b.ends)
+part-goes-on {sign} {bytes} {fields} {xs} {rest} is far none stop ys more b = search (rules, append_cancel_left, words_once, numbers_are_words)
 
 -- ---- a state in front
 
@@ -111,7 +106,7 @@ state-front (Dead n w l) bytes rest fits stops is =
     let first = part fits.0 (stops-colon (spaced numeral w ++ last)) (simp append_assoc at is) in
     (behind, last, first, part fits.1 (stops-colon (spaced numeral l ++ rest)) refl, part fits.2 stops refl)
 
-pub state_shorter : (state : State) (rest behind : List ℕ) → StateInFront state rest behind → length behind < length rest
+state_shorter : (state : State) (rest behind : List ℕ) → StateInFront state rest behind → length behind < length rest
 unfolding state_text
 state_shorter (Open n w) rest behind there =
     omega (arith, ap length (state-is (Open n w) rest behind there).1, length-append (state_text (Open n w)) behind)
@@ -181,13 +176,12 @@ no-addresses fields b t none each is = none b (flat_map state_text t) (part each
 
 -- ---- no line feed
 
-numbers_no_lf : (numbers : List ℕ) → NoLf (spaced numeral numbers)
+pub numbers_no_lf : (numbers : List ℕ) → NoLf (spaced numeral numbers)
 numbers_no_lf numbers = spaced_no_lf numeral numeral_no_lf numbers
 
 state_no_lf : (state : State) → NoLf (state_text state)
 unfolding state_text
-state_no_lf (Open next words) = search (rules, NoLf-append, numbers_no_lf) depth 12
-state_no_lf (Dead next words limits) = search (rules, NoLf-append, numbers_no_lf) depth 12
+state_no_lf state = search (rules, NoLf-append, numbers_no_lf) depth 12
 
 pub states_no_lf : (states : List State) → NoLf (flat_map state_text states)
 states_no_lf [] = tt

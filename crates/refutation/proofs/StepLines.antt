@@ -1,5 +1,5 @@
 -- The lines of steps: whether a line is one, and of which.
-use Rattle.std.proofs.Common.{◌≡◌, ◌≢◌, ℕ, ◌<◌, ◌^◌, ◌==◌, List, [], ◌∷◌, ◌++◌, Option, Some, None, refl, sym, ap, ◌∙◌, arith, append-nil}
+use Rattle.std.proofs.Common.{rules, ◌≡◌, ◌≢◌, ℕ, ◌<◌, ◌^◌, ◌==◌, List, [], ◌∷◌, ◌++◌, Option, Some, None, refl, sym, ap, ◌∙◌, arith}
 use Rattle.std.specs.Prelude.{codes, flat_map, option_map, if◌then◌else◌}
 use Rattle.decimal_text.specs.Numbers.{numeral}
 use Rattle.std.proofs.lemmas.Option.{none-some, some_pair_parts}
@@ -28,11 +28,7 @@ abbrev pub name_of : ℕ → List ℕ
 name_of b = if b == 114 then codes "read " else (if b == 102 then codes "from-read " else (if b == 119 then codes "write-order " else (if b == 115 then codes "states" else codes "cycle :")))
 
 pub name_first : (step : Step) (rest : List ℕ) → name_of (first_of (name_text step ++ rest)) ≡ name_text step
-name_first (Read read ranges) rest = refl
-name_first (FromRead source write path) rest = refl
-name_first (WriteOrder source write path) rest = refl
-name_first (Cycle path) rest = refl
-name_first (States addresses set) rest = refl
+name_first step rest = search rules
 
 -- a line that begins with none of the names is no step's
 pub line-none : (line : List ℕ) → ((rest : List ℕ) → line ≢ codes "read " ++ rest) → ((rest : List ℕ) → line ≢ codes "from-read " ++ rest)
@@ -42,23 +38,6 @@ line-none line a b c d e (FromRead source write path) fits is = b (fields_text (
 line-none line a b c d e (WriteOrder source write path) fits is = c (fields_text (WriteOrder source write path)) is
 line-none line a b c d e (Cycle path) fits is = d (fields_text (Cycle path)) is
 line-none line a b c d e (States addresses set) fits is = e (fields_text (States addresses set)) is
-
--- ---- no step of a name
-
-pub from_read-none : (bytes : List ℕ) → TellsReason bytes None → TellsStep (codes "from-read ") bytes None
-unfolding fields_text
-from_read-none bytes none (FromRead source write path) fits name is = none source write path fits.0 fits.1 fits.2 is
-from_read-none bytes none step fits name is = absurd (let e = ap first_of name in omega (arith, e))
-
-pub write_order-none : (bytes : List ℕ) → TellsReason bytes None → TellsStep (codes "write-order ") bytes None
-unfolding fields_text
-write_order-none bytes none (WriteOrder source write path) fits name is = none source write path fits.0 fits.1 fits.2 is
-write_order-none bytes none step fits name is = absurd (let e = ap first_of name in omega (arith, e))
-
-pub cycle-none : (bytes : List ℕ) → TellsWords numeral (λ n. n < 2 ^ 64) bytes None → TellsStep (codes "cycle :") bytes None
-unfolding fields_text
-cycle-none bytes none (Cycle path) fits name is = none path fits is
-cycle-none bytes none step fits name is = absurd (let e = ap first_of name in omega (arith, e))
 
 -- ---- a number, a write and a path
 
@@ -85,7 +64,7 @@ module _ (bytes rest : List ℕ) (found : ℕ) (e : source_at bytes ≡ Some (fo
   reason-told words write (Some path) told f =
       let s = field_below_takes (2 ^ 64) bytes (found, rest) e in
       let w = named_takes rest (write, words) f in
-      (s.1, w.0, told.0, s.0 ∙ ap (λ xs. numeral found ++ 32 ∷ xs) (w.1 ∙ ap (λ xs. id_text write ++ (codes " :" ++ xs)) told.1))
+      (s.1, w.1, told.0, s.0 ∙ ap (λ xs. numeral found ++ 32 ∷ xs) (w.0 ∙ ap (λ xs. id_text write ++ (codes " :" ++ xs)) told.1))
   reason-told words write None told f = λ source id path low fits each is.
       told path each (some_pair_parts _ _ _ _ (sym f ∙ named_there source id path low fits is)).1
 
@@ -105,7 +84,7 @@ pub read-told : (bytes words : List ℕ) (read : OpId) (found : Option (List Ran
 unfolding fields_text
 read-told bytes words read (Some ranges) told e =
     let r = named_takes bytes (read, words) e in
-    ((r.0, told.0), refl, r.1 ∙ ap (λ xs. id_text read ++ (codes " :" ++ xs)) told.1)
+    ((r.1, told.0), refl, r.0 ∙ ap (λ xs. id_text read ++ (codes " :" ++ xs)) told.1)
 read-told bytes words read None told e = read-none bytes (λ id ranges fits there. told ranges fits.1 (some_pair_parts _ _ _ _ (sym e ∙ there)).1)
 
 -- ---- a set of states
@@ -113,12 +92,10 @@ read-told bytes words read None told e = read-none bytes (λ id ranges fits ther
 pub states-told : (fields a text rest : List ℕ) (s : List State) → PartInFront [] fields a text → StatesSoFar text s rest → rest ≡ []
     → TellsStep (codes "states") fields (Some (States a s))
 unfolding fields_text
-states-told fields a text rest s front far none =
-    ((front.each, far.each), refl, front.text ∙ ap (λ xs. spaced numeral a ++ xs) (far.text_is ∙ ap (λ xs. flat_map state_text s ++ xs) none ∙ append-nil (flat_map state_text s)))
+states-told fields a text rest s front far none = search rules
 
 -- none, where no fields of the kind are there
 pub states-none : (fields : List ℕ) → ((b : List ℕ) (t : List State) → Fits (States b t) → fields ≡ spaced numeral b ++ flat_map state_text t → ⊥)
     → TellsStep (codes "states") fields None
 unfolding fields_text
-states-none fields none (States b t) fits name is = none b t fits is
-states-none fields none step fits name is = absurd (let e = ap first_of name in omega (arith, e))
+states-none fields none = search rules

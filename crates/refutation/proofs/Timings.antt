@@ -1,4 +1,5 @@
 -- What facts say of the times at which operations take place.
+use Rattle.std.proofs.Common.{rules}
 use Rattle.std.specs.Prelude.{◌≡◌, ℕ, ◌<◌, ◌≤◌, ◌⊎◌, true, List, Some, slice_get}
 use Rattle.mem_op.specs.declared.id.OpId.{OpId}
 use Rattle.mem_op.specs.Consistency.{Operation, operation_at, is_store_to, word_left}
@@ -47,5 +48,4 @@ AllHold cores time facts = (number : ℕ) (fact : Fact) → slice_get facts numb
 
 -- a fact's own order
 pub order-of : (cores : List (List Operation)) (time : Point → ℕ) (fact : Fact) → Holds cores time fact → time (earlier_of fact) < time (later_of fact)
-order-of cores time (Before earlier later) holds = holds
-order-of cores time (Source read range) holds = holds.0
+order-of cores time fact holds = search rules

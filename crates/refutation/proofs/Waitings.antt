@@ -1,7 +1,8 @@
 -- The cases that wait.
+use Rattle.std.proofs.lemmas.Grind.{common_steps}
 use Rattle.std.specs.Prelude.{◌≡◌, ℕ, ◌≤◌, List, [], ◌∷◌, ◌++◌, refl, map, length, take, reverse}
-use Rattle.std.proofs.Common.{sym, ◌∙◌, ap, subst, arith, length-append, append_assoc}
-use Rattle.std.proofs.lemmas.List.{take-append-le, take-take, length-take, take_all, reverse-append, map-append}
+use Rattle.std.proofs.Common.{sym, ◌∙◌, ap, subst, arith}
+use Rattle.std.proofs.lemmas.List.{take-append-le, take-take, length-take, take_all, reverse-append}
 use Rattle.refutation.specs.declared.fact.Fact.{Fact}
 use Rattle.refutation.specs.Refuting.{split}
 use Rattle.refutation.specs.inner.Waiting.{WaitingParts, AreNested, cases_of, waiting_on}
@@ -9,13 +10,6 @@ use Rattle.refutation.specs.inner.Waiting.{WaitingParts, AreNested, cases_of, wa
 -- the facts in force in each of these, the first of them first
 abbrev on : List Fact → List WaitingParts → List (List Fact)
 on facts ws = map (λ w. take w.kept facts ++ w.fact ∷ []) ws
-
--- one more that waits, of those of these facts
-pub kept-more : (n : ℕ) (waiting : List WaitingParts) (given : List Fact) (fact : Fact) → map (waiting_on n) (given ++ fact ∷ []) ++ reverse waiting ≡ map (waiting_on n) given ++ reverse (waiting ++ waiting_on n fact ∷ [])
-kept-more n waiting given fact =
-    ap (λ xs. xs ++ reverse waiting) (map-append (waiting_on n) given (fact ∷ []))
-    ∙ append_assoc (map (waiting_on n) given) (waiting_on n fact ∷ []) (reverse waiting)
-    ∙ ap (λ xs. map (waiting_on n) given ++ xs) (sym (reverse-append waiting (waiting_on n fact ∷ [])))
 
 nested-added : (n : ℕ) (given : List Fact) (ws : List WaitingParts) → AreNested n ws → AreNested n (map (waiting_on n) given ++ ws)
 nested-added n [] ws nested = nested
@@ -49,10 +43,7 @@ module _ (facts given : List Fact) (waiting rest : List WaitingParts) (case : Wa
   now-nested = subst (AreNested (length facts)) now-kept (nested-added (length facts) given (reverse waiting) nested)
 
   pub next-nested : AreNested (length (take case.kept facts ++ case.fact ∷ [])) (reverse rest)
-  next-nested =
-      let low = now-nested.0 in
-      let size = length-take case.kept facts in
-      nested-weak case.kept (length (take case.kept facts ++ case.fact ∷ [])) (reverse rest) (omega (arith, length-append (take case.kept facts) (case.fact ∷ []))) now-nested.1
+  next-nested = grind (arith, common_steps, now-nested, length-take, nested-weak)
 
   pub next-cases : split facts given ++ cases_of facts waiting ≡ (take case.kept facts ++ case.fact ∷ []) ∷ cases_of (take case.kept facts ++ case.fact ∷ []) rest
   next-cases =

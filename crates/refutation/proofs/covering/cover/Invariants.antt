@@ -1,11 +1,13 @@
-use Rattle.std.proofs.Common.{◌≡◌}
+use Rattle.std.proofs.Common.{◌≡◌, length}
+use Rattle.std.specs.Prelude.{slice_get}
 use Rattle.refutation.specs.declared.step.Point.TheVariants.{Init}
 use Rattle.refutation.specs.Rules.{LiesIn}
-use Rattle.refutation.proofs.Covered.{CoversCores}
+use Rattle.refutation.specs.inner.Covering.{CoversFirst}
+use Rattle.refutation.proofs.Firsts.{First}
 use Rattle.refutation.proofs.covering.cover.Given as goal
 
 abbrev pub invariant-loop-core : goal.invariant-loop-core
 invariant-loop-core l = record {
   init : l.read.value ≡ 0 → LiesIn l.ranges Init;
-  first : CoversCores l.read.id l.read.addr l.read.value l.ranges l.trace l.core;
+  first : First (λ core ys. CoversFirst l.read.id l.read.addr l.read.value l.ranges core (length ys) ys) (slice_get l.trace) l.core;
 }

@@ -1,7 +1,6 @@
-use Rattle.std.proofs.Common.{◌≡◌, ◌≢◌, ◌≤◌, ◌<◌, true, arith, ◌∙◌}
-use Rattle.std.specs.Prelude.{slice_get, slice_index}
+use Rattle.std.proofs.Common.{rules, ◌≡◌, ◌≢◌, ◌≤◌, ◌<◌, true, arith, ◌∙◌}
+use Rattle.std.specs.Prelude.{slice_index}
 use Rattle.mem_op.specs.Consistency.{is_store_to, word_left}
-use Rattle.refutation.specs.inner.Dead.{NoneStoresOf}
 use Rattle.refutation.proofs.Firsts.{core_at, cores-all, all-cores, first-more}
 use Rattle.refutation.proofs.Settled.{at-core}
 use Rattle.refutation.proofs.dead.none_stores.Goals as goal
@@ -15,15 +14,9 @@ returns-then-not-none_stores_up_to c = λ none.
 pub loop-core-preserved : goal.loop-core-preserved
 loop-core-preserved c =
     let found = core_at c.cores-operations-items.result.now c.loop-core.core (c.cores-operations-items.ensures.value ∙ c.trace.ensures) c.operations-item.is (omega arith) in
-    first-more (λ core ys. NoneStoresOf ys (slice_index c.args.next.now core) (slice_index c.args.limits.now core) c.args.addr c.args.word) (slice_get c.args.trace.now)
-    c.operations-item.result.items found c.loop-core.invariant (rw (c.deref.ensures.value, c.number_of-from.ensures, c.number_of-to.ensures) at c.if-not-none_stores_up_to.ensures)
+    search (rules, first-more)
 
 pub returns : goal.returns
 returns c =
     all-cores (λ id z. slice_index c.args.next.now id.core ≤ id.index → id.index < slice_index c.args.limits.now id.core → is_store_to c.args.addr z ≡ true → word_left z ≢ c.args.word)
     c.args.trace.now c.loop-core.core (cores-all c.cores-operations-items.result.now c.loop-core.core (c.cores-operations-items.ensures.value ∙ c.trace.ensures) (omega arith)) c.loop-core.invariant
-
-pub none_stores_up_to-requires : goal.none_stores_up_to-requires
-none_stores_up_to-requires c =
-    let found = core_at c.cores-operations-items.result.now c.loop-core.core (c.cores-operations-items.ensures.value ∙ c.trace.ensures) c.operations-item.is (omega arith) in
-    rw c.deref.ensures.value (c.last-last.ensures c.operations-item.result.items found)

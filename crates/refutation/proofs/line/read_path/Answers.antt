@@ -3,7 +3,7 @@ use Rattle.refutation.proofs.line.read_path.Goals as goal
 use Rattle.text_lines.proofs.SpacedWords.{all_words, numbers_are_words, one_more_word, word_shorter}
 
 pub loop-number-smaller : goal.loop-number-smaller
-loop-number-smaller c = word_shorter numbers_are_words c.loop-number.rest.now c.in-Some.behind.now c.in-Some.number (sym c.in-Some.ensures)
+loop-number-smaller c = search (rules, word_shorter numbers_are_words)
 
 pub loop-number-preserved : goal.loop-number-preserved
 loop-number-preserved c =

@@ -4,7 +4,7 @@ use Rattle.refutation.proofs.line.read_ranges.Goals as goal
 use Rattle.text_lines.proofs.SpacedWords.{all_words, one_more_word, word_shorter}
 
 pub loop-found-smaller : goal.loop-found-smaller
-loop-found-smaller c = word_shorter ranges_are_words c.loop-found.rest.now c.in-Some.behind.now c.in-Some.found (sym c.in-Some.ensures)
+loop-found-smaller c = search (rules, word_shorter ranges_are_words)
 
 pub loop-found-preserved : goal.loop-found-preserved
 loop-found-preserved c =

@@ -1,12 +1,9 @@
 use Rattle.std.proofs.Common.{◌≡◌, sym, ◌∙◌, ap, ◌==◌, true, length}
 use Rattle.std.proofs.lemmas.Bool.{eqb-true, eq-eqb}
 use Rattle.std.proofs.lemmas.List.{nil_from_length}
-use Rattle.refutation.proofs.StateTexts.{state_shorter, states-more, set-once, no-addresses}
+use Rattle.refutation.proofs.StateTexts.{states-more, set-once, no-addresses}
 use Rattle.refutation.proofs.StepLines.{states-told, states-none}
 use Rattle.refutation.proofs.state_line.read_states.Goals as goal
-
-pub loop-states-smaller : goal.loop-states-smaller
-loop-states-smaller c = state_shorter c.in-Some-2.state c.loop-states.rest.now c.in-Some-2.behind.now (rw c.in-Some-2.is at c.in_ok-state.ensures)
 
 pub loop-states-preserved : goal.loop-states-preserved
 loop-states-preserved c =
