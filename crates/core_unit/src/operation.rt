@@ -1,27 +1,20 @@
 //! Operations: whether one hits or misses its line, and how the core performs it.
 
-ghost use Rattle.std.specs.Prelude.{◌≡◌, None, MatchOption, MatchResult, if◌then◌else◌};
+ghost use Rattle.std.specs.Prelude.{◌≡◌, ℕ, None, Some, MatchResult, if◌then◌else◌};
 ghost use Rattle.lease_rule.specs.Lease.{self_increment};
-ghost use Rattle.private_cache.specs.Answers.{hit_fault, past_limit};
-ghost use Rattle.private_cache.specs.Steps.{after_operation, line_at};
-ghost use Rattle.core_unit.specs.Core.{op_addr, op_hit, is_due};
+ghost use Rattle.private_cache.specs.Answers.{past_limit};
+ghost use Rattle.private_cache.specs.Steps.{line_at, used};
+ghost use Rattle.private_cache.specs.Table.{Hit};
+ghost use Rattle.private_cache.specs.declared.held.Held.{Held};
+ghost use Rattle.core_unit.specs.Core.{op_addr, op_hit, is_due, record_of};
 ghost use Rattle.core_unit.specs.inner.Look.{IsLook};
 
 use super::unit::CoreUnit;
 use lease_rule::{Config, self_increment};
-use line_stamps::{Message, Rank, Stamp, StampFault};
+use line_stamps::{Rank, Stamp, StampFault};
 use log_record::{Act, Record};
-use mem_op::{Addr, Op, OpId, Word};
-use private_cache::{Load, PrivateCache, Store, Swap};
-
-/// Whether an operation hits or misses its line.
-#[derive(Clone, Copy, Debug, PartialEq, Eq)]
-pub(crate) enum Look {
-    /// The core can perform the operation, and this is its record.
-    Hit(Record),
-    /// The core must make this request first.
-    Miss(Message),
-}
+use mem_op::{Addr, Op, OpId, Source, Word};
+use private_cache::{PrivateCache, Read};
 
 /// The address of an operation.
 pub(crate) fn op_addr(op: &Op) -> Addr
@@ -36,85 +29,39 @@ pub(crate) fn op_addr(op: &Op) -> Addr
 
 impl CoreUnit {
     /// Whether an operation hits or misses the line of its address.
-    pub(crate) fn look(&self, op: &Op) -> Result<Look, StampFault>
+    pub(crate) fn look(&self, op: &Op) -> Result<Read, StampFault>
         ensures { IsLook self.now op.now result }
     {
         match op {
-            Op::Load(addr) => self.look_to_load(*addr),
-            Op::Store(addr, value) => self.look_to_store(*addr, *value),
-            Op::Swap(addr, value) => self.look_to_swap(*addr, *value),
-        }
-    }
-
-    fn look_to_load(&self, addr: Addr) -> Result<Look, StampFault>
-        ensures { IsLook self.now (Op.Load addr) result }
-    {
-        match &self.cache.peek_load(addr, self.pts, self.r) {
-            Ok(
-                Load::Hit {
-                    value,
-                    source,
-                    stamp,
-                    rank,
-                },
-            ) => Ok(Look::Hit(Record::new(*value, *stamp, *rank, addr, &Act::Load(*source)))),
-            Ok(Load::Miss(request)) => Ok(Look::Miss(*request)),
-            Err(fault) => Err(*fault),
-        }
-    }
-
-    fn look_to_store(&self, addr: Addr, value: Word) -> Result<Look, StampFault>
-        ensures { IsLook self.now (Op.Store addr value) result }
-    {
-        match &self.cache.peek_store(addr, self.pts, self.r) {
-            Ok(Store::Hit { stamp, rank }) => Ok(Look::Hit(Record::new(
-                value,
-                *stamp,
-                *rank,
-                addr,
-                &Act::Store,
-            ))),
-            Ok(Store::Miss(request)) => Ok(Look::Miss(*request)),
-            Err(fault) => Err(*fault),
-        }
-    }
-
-    fn look_to_swap(&self, addr: Addr, value: Word) -> Result<Look, StampFault>
-        ensures { IsLook self.now (Op.Swap addr value) result }
-    {
-        match &self.cache.peek_swap(addr, self.pts, self.r) {
-            Ok(
-                Swap::Hit {
-                    value: read,
-                    source,
-                    stamp,
-                    rank,
-                },
-            ) => Ok(Look::Hit(Record::new(value, *stamp, *rank, addr, &Act::Swap(*source, *read)))),
-            Ok(Swap::Miss(request)) => Ok(Look::Miss(*request)),
-            Err(fault) => Err(*fault),
+            Op::Load(addr) => self.cache.peek_load(*addr, self.pts, self.r),
+            Op::Store(addr, _) => self.cache.peek_swap(*addr, self.pts, self.r),
+            Op::Swap(addr, _) => self.cache.peek_swap(*addr, self.pts, self.r),
         }
     }
 }
 
-/// Performs an operation on its line, if it hits. `id` is the operation's id. A miss changes nothing,
-/// and neither does a hit above a limit.
-pub(crate) fn perform_at(cache: &mut PrivateCache, op: &Op, id: OpId, pts: Stamp, r: Rank)
-    ensures { let hit = op_hit op.now id pts r (line_at cache.old (op_addr op.now)) in
-        MatchOption (hit_fault hit)
-        (cache.new ≡ after_operation cache.old (op_addr op.now) hit)
-        (λ _. cache.new ≡ cache.old) }
+/// The record of an operation that hits at this stamp and rank, and before which its line has this
+/// word, from this source.
+pub(crate) fn record_of(op: &Op, value: Word, source: Source, stamp: Stamp, rank: Rank) -> Record
+    ensures { (held : Held) → result ≡ record_of op.now
+        (record { value = value; source = source; held = held; stamp = stamp; rank = rank }) }
 {
     match op {
-        Op::Load(addr) => {
-            let _ = cache.load(*addr, pts, r);
-        }
-        Op::Store(addr, value) => {
-            let _ = cache.store(*addr, *value, id, pts, r);
-        }
-        Op::Swap(addr, value) => {
-            let _ = cache.swap(*addr, *value, id, pts, r);
-        }
+        Op::Load(addr) => Record::new(value, stamp, rank, *addr, &Act::Load(source)),
+        Op::Store(addr, word) => Record::new(*word, stamp, rank, *addr, &Act::Store),
+        Op::Swap(addr, word) => Record::new(*word, stamp, rank, *addr, &Act::Swap(source, value)),
+    }
+}
+
+/// Performs an operation on its line, which it hits. `id` is its id, and `made` its record.
+pub(crate) fn perform_at(cache: &mut PrivateCache, op: &Op, id: OpId, made: &Record)
+    ensures { (pts r : ℕ) (hit : Hit) → op_hit op.now id pts r (line_at cache.old (op_addr op.now)) ≡ Some hit
+        → made.now ≡ record_of op.now hit → cache.new ≡ used cache.old (op_addr op.now) hit.held }
+{
+    match op {
+        Op::Load(addr) => cache.read(*addr, made.ts),
+        Op::Store(addr, word) => cache.write(*addr, *word, id, made.ts, made.rank),
+        Op::Swap(addr, word) => cache.write(*addr, *word, id, made.ts, made.rank),
     }
 }
 

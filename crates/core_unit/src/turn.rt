@@ -8,13 +8,14 @@ ghost use Rattle.core_unit.specs.Outcomes.{OutcomeLeads, miss_outcome, op_outcom
 ghost use Rattle.core_unit.specs.Parts.{core_of, SameUnit};
 
 use super::fault::UnitFault;
-use super::operation::{Look, after, op_addr, perform_at};
+use super::operation::{after, op_addr, perform_at, record_of};
 use super::outcome::Outcome;
 use super::transcript::check_room;
 use super::unit::CoreUnit;
 use line_stamps::Message;
 use log_record::Record;
 use mem_op::{Op, OpId, OpIndex};
+use private_cache::Read;
 
 impl CoreUnit {
     /// Makes a turn. If the next operation hits, the core performs it: Performed with its id. On a
@@ -37,8 +38,18 @@ impl CoreUnit {
             return Ok(Outcome::Ended);
         };
         match &self.look(op) {
-            Ok(Look::Hit(made)) => self.perform(op, made),
-            Ok(Look::Miss(request)) => self.ask(op, request),
+            Ok(
+                Read::Hit {
+                    value,
+                    source,
+                    stamp,
+                    rank,
+                },
+            ) => {
+                let made = record_of(op, *value, *source, *stamp, *rank);
+                self.perform(op, &made)
+            }
+            Ok(Read::Miss(request)) => self.ask(op, request),
             Err(fault) => {
                 check_room(&self.transcript)?;
                 Err(UnitFault::Stamp(*fault))
@@ -77,7 +88,7 @@ impl CoreUnit {
             core: *core,
             index: OpIndex::new(log.len() as u64).unwrap(),
         };
-        perform_at(cache, op, id, *pts, *r);
+        perform_at(cache, op, id, made);
         state.answer(program, made.word_answered());
         *pts = pts_after;
         *r = r_after;

@@ -10,7 +10,7 @@ use lease_rule::Config;
 use line_stamps::{Line, LineStamps, Message, Rank, Recall, RecallKind, Reply, Stamp, StampFault};
 use manager_slice::{HistoryEntry, ManagerSlice, SliceFault};
 use mem_op::Source;
-use private_cache::{FillFault, Load, PrivateCache, Store};
+use private_cache::{FillFault, PrivateCache, Read, Store};
 use std::process::Abort;
 use std::test::Fail;
 use tardis_core::{Core, CoreFault, Event, UnitFault, run};
@@ -60,18 +60,18 @@ fn a_line_in_a_cache_of_one(rt: HostRuntime) -> Result<(), Fail> {
 }
 
 /// What the load of the row answers.
-fn load(cache: &mut PrivateCache) -> Result<Load, StampFault> {
+fn load(cache: &mut PrivateCache) -> Result<Read, StampFault> {
     cache.load(addr(0), stamp(23), Rank::ZERO)
 }
 
 /// The rest of the row, from the load on.
 fn is_read_and_upgraded(rt: &impl Abort, cache: &mut PrivateCache) {
-    let missed = Load::Miss(read(0, Some(stamp(1)), stamp(23)));
+    let missed = Read::Miss(read(0, Some(stamp(1)), stamp(23)));
     assert_eq!(rt; load(cache), Ok(missed));
     let early = fill(cache, &Reply::RenewRep(stamp(0)));
     assert_eq!(rt; early, Err(FillFault::BadReply));
     assert_eq!(rt; fill(cache, &Reply::RenewRep(stamp(33))), Ok(()));
-    let loaded = Load::Hit {
+    let loaded = Read::Hit {
         value: 2,
         source: Source::Store(id(1)),
         stamp: stamp(23),

@@ -10,12 +10,10 @@ use Rattle.line_stamps.specs.declared.message.RecallKind.{RecallKind}
 use Rattle.line_stamps.specs.declared.message.RecallKind.TheVariants.{WriteBack, Flush}
 use Rattle.private_cache.specs.declared.answer.Evicted.{Evicted}
 use Rattle.private_cache.specs.declared.answer.Evicted.TheVariants.{Nothing, Dropped, GiveBack}
-use Rattle.private_cache.specs.declared.answer.Load.{Load}
-use Rattle.private_cache.specs.declared.answer.Load.TheVariants as load
+use Rattle.private_cache.specs.declared.answer.Read.{Read}
+use Rattle.private_cache.specs.declared.answer.Read.TheVariants as read
 use Rattle.private_cache.specs.declared.answer.Store.{Store}
 use Rattle.private_cache.specs.declared.answer.Store.TheVariants as store
-use Rattle.private_cache.specs.declared.answer.Swap.{Swap}
-use Rattle.private_cache.specs.declared.answer.Swap.TheVariants as swap
 use Rattle.private_cache.specs.declared.held.Held.{Held}
 use Rattle.private_cache.specs.declared.held.Held.TheVariants.{Shared, Exclusive}
 use Rattle.private_cache.specs.Table.{Hit, copy_of}
@@ -36,9 +34,9 @@ give_fault None = None
 give_fault (Some l) = past_limit l.stamps.rts 0
 
 -- the answer to a load by a core of stamp `pts` from an address that had this line before
-abbrev pub load_answer : ℕ → ℕ → Option Held → Option Hit → Load
-load_answer a pts held None = load.Miss (ShReq a (copy_of held) pts)
-load_answer a pts held (Some hit) = load.Hit hit.value hit.source hit.stamp hit.rank
+abbrev pub load_answer : ℕ → ℕ → Option Held → Option Hit → Read
+load_answer a pts held None = read.Miss (ShReq a (copy_of held) pts)
+load_answer a pts held (Some hit) = read.Hit hit.value hit.source hit.stamp hit.rank
 
 -- the answer to a store to an address that had this line before
 abbrev pub store_answer : ℕ → Option Held → Option Hit → Store
@@ -46,9 +44,9 @@ store_answer a held None = store.Miss (ExReq a (copy_of held))
 store_answer a held (Some hit) = store.Hit hit.stamp hit.rank
 
 -- the answer to a swap at an address that had this line before
-abbrev pub swap_answer : ℕ → Option Held → Option Hit → Swap
-swap_answer a held None = swap.Miss (ExReq a (copy_of held))
-swap_answer a held (Some hit) = swap.Hit hit.value hit.source hit.stamp hit.rank
+abbrev pub swap_answer : ℕ → Option Held → Option Hit → Read
+swap_answer a held None = read.Miss (ExReq a (copy_of held))
+swap_answer a held (Some hit) = read.Hit hit.value hit.source hit.stamp hit.rank
 
 -- the answer to an eviction of an address that had this line
 abbrev pub evict_answer : ℕ → Option Held → Evicted

@@ -3,17 +3,17 @@
 use line_stamps::{Message, Rank, Stamp};
 use mem_op::{Source, Word};
 
-/// The answer to a load.
+/// The answer to a load or a swap.
 #[derive(Clone, Copy, Debug, PartialEq, Eq)]
-pub enum Load {
-    /// The word with its source, and the stamp and rank of the load.
+pub enum Read {
+    /// The word that was there before with its source, and the stamp and rank of the operation.
     Hit {
         value: Word,
         source: Source,
         stamp: Stamp,
         rank: Rank,
     },
-    /// The request to send: SH_REQ.
+    /// The request to send: SH_REQ for a load, EX_REQ for a swap.
     Miss(Message),
 }
 
@@ -22,20 +22,6 @@ pub enum Load {
 pub enum Store {
     /// The stamp and rank of the store.
     Hit { stamp: Stamp, rank: Rank },
-    /// The request to send: EX_REQ.
-    Miss(Message),
-}
-
-/// The answer to a swap.
-#[derive(Clone, Copy, Debug, PartialEq, Eq)]
-pub enum Swap {
-    /// The word that was there before with its source, and the stamp and rank of the swap.
-    Hit {
-        value: Word,
-        source: Source,
-        stamp: Stamp,
-        rank: Rank,
-    },
     /// The request to send: EX_REQ.
     Miss(Message),
 }

@@ -7,7 +7,7 @@ ghost use Rattle.std.specs.Option.{option_copied};
 ghost use Rattle.lease_rule.specs.Lease.{store_stamp, rank_of};
 ghost use Rattle.private_cache.specs.Answers.{past_limit};
 
-use super::answer::{Evicted, Load, Store, Swap};
+use super::answer::{Evicted, Read, Store};
 use super::fault::FillFault;
 use super::held::{Held, copy_of, filled};
 use lease_rule::{Config, load_stamp, rank_of, store_stamp, write_back_rts};
@@ -118,7 +118,7 @@ impl PrivateCache {
 
     /// The answer that a load at `addr` would get. Takes no memory.
     #[inline(always)]
-    pub fn peek_load(&self, addr: Addr, pts: Stamp, r: Rank) -> Result<Load, StampFault>
+    pub fn peek_load(&self, addr: Addr, pts: Stamp, r: Rank) -> Result<Read, StampFault>
         ensures { let held = line_at self.now addr in
             let hit = load_hit pts r held in
             MatchResult result
@@ -132,16 +132,16 @@ impl PrivateCache {
             pts,
         };
         let Some(held) = held else {
-            return Ok(Load::Miss(miss));
+            return Ok(Read::Miss(miss));
         };
         let line = held.line();
         let stamps = line.stamps();
         if held.is_shared() && stamps.rts < pts {
-            return Ok(Load::Miss(miss));
+            return Ok(Read::Miss(miss));
         }
         let stamp = load_stamp(pts, stamps.wts);
         let rank = rank_of(stamp, pts, r, stamps.wts, stamps.wr)?;
-        Ok(Load::Hit {
+        Ok(Read::Hit {
             value: line.value(),
             source: line.source(),
             stamp,
@@ -152,7 +152,7 @@ impl PrivateCache {
     /// Loads the word at `addr` for a core of stamp `pts` and rank `r`. A hit makes the line the
     /// most recently used; a miss answers the request to send and changes nothing. 5 RankLimit
     /// if the load's rank is above the limit. Takes no memory.
-    pub fn load(&mut self, addr: Addr, pts: Stamp, r: Rank) -> Result<Load, StampFault>
+    pub fn load(&mut self, addr: Addr, pts: Stamp, r: Rank) -> Result<Read, StampFault>
         ensures answer { let held = line_at self.old addr in
             let hit = load_hit pts r held in
             MatchResult result
@@ -163,25 +163,10 @@ impl PrivateCache {
         ensures err { OnErr result (self.new ≡ self.old) }
     {
         let load = self.peek_load(addr, pts, r)?;
-        if let Load::Hit { stamp, .. } = &load {
+        if let Read::Hit { stamp, .. } = &load {
             self.read(addr, *stamp);
         }
         Ok(load)
-    }
-
-    /// The answer that a store at `addr` would get, whatever it stores. Takes no memory.
-    #[inline(always)]
-    pub fn peek_store(&self, addr: Addr, pts: Stamp, r: Rank) -> Result<Store, StampFault>
-        ensures { (value : ℕ) (source : Source) → let held = line_at self.now addr in
-            let hit = store_hit value source pts r held in
-            MatchResult result
-            (λ store. (store ≡ store_answer addr held hit) × (hit_fault hit ≡ None))
-            (λ fault. hit_fault hit ≡ Some fault) }
-    {
-        match self.peek_swap(addr, pts, r)? {
-            Swap::Hit { stamp, rank, .. } => Ok(Store::Hit { stamp, rank }),
-            Swap::Miss(request) => Ok(Store::Miss(request)),
-        }
     }
 
     /// Stores a word at `addr` for a core of stamp `pts` and rank `r`; `id` is the store's id. A
@@ -205,16 +190,16 @@ impl PrivateCache {
             OnOk result (self.new ≡ after_operation self.old addr hit) }
         ensures err { OnErr result (self.new ≡ self.old) }
     {
-        let store = self.peek_store(addr, pts, r)?;
-        if let Store::Hit { stamp, rank } = &store {
-            self.write(addr, value, id, *stamp, *rank);
+        match self.swap(addr, value, id, pts, r)? {
+            Read::Hit { stamp, rank, .. } => Ok(Store::Hit { stamp, rank }),
+            Read::Miss(request) => Ok(Store::Miss(request)),
         }
-        Ok(store)
     }
 
-    /// The answer that a swap at `addr` would get, whatever it stores. Takes no memory.
+    /// The answer that a swap at `addr` would get, whatever it stores. A store hits or misses as a
+    /// swap does. Takes no memory.
     #[inline(always)]
-    pub fn peek_swap(&self, addr: Addr, pts: Stamp, r: Rank) -> Result<Swap, StampFault>
+    pub fn peek_swap(&self, addr: Addr, pts: Stamp, r: Rank) -> Result<Read, StampFault>
         ensures { (value : ℕ) (source : Source) → let held = line_at self.now addr in
             let hit = swap_hit value source pts r held in
             MatchResult result
@@ -223,13 +208,13 @@ impl PrivateCache {
     {
         let held = self.line(addr);
         let Some(Held::Exclusive { modified, line }) = held else {
-            return Ok(Swap::Miss(Message::ExReq {
+            return Ok(Read::Miss(Message::ExReq {
                 addr,
                 copy: copy_of(held),
             }));
         };
         let (stamp, rank) = store_time(*modified, line.stamps(), pts, r)?;
-        Ok(Swap::Hit {
+        Ok(Read::Hit {
             value: line.value(),
             source: line.source(),
             stamp,
@@ -248,7 +233,7 @@ impl PrivateCache {
         id: OpId,
         pts: Stamp,
         r: Rank,
-    ) -> Result<Swap, StampFault>
+    ) -> Result<Read, StampFault>
         ensures answer { let held = line_at self.old addr in
             let hit = swap_hit value (Source.Store id) pts r held in
             MatchResult result
@@ -259,15 +244,16 @@ impl PrivateCache {
         ensures err { OnErr result (self.new ≡ self.old) }
     {
         let swap = self.peek_swap(addr, pts, r)?;
-        if let Swap::Hit { stamp, rank, .. } = &swap {
+        if let Read::Hit { stamp, rank, .. } = &swap {
             self.write(addr, value, id, *stamp, *rank);
         }
         Ok(swap)
     }
 
-    // Reads the line of the address by a load of this stamp, which hits: an owner extends the lease
-    // to the stamp, and the line becomes the most recently used. Does nothing if no line is there.
-    fn read(&mut self, addr: Addr, stamp: Stamp)
+    /// Makes a load that hits, as `peek_load` said: this is its stamp. An owner extends the lease to
+    /// it, and the line becomes the most recently used. Does nothing if no line is there. Takes no
+    /// memory.
+    pub fn read(&mut self, addr: Addr, stamp: Stamp)
         ensures { MatchOption (line_at self.old addr)
             (self.new ≡ self.old)
             (λ held. self.new ≡ used self.old addr (read_at held stamp)) }
@@ -277,9 +263,9 @@ impl PrivateCache {
         }
     }
 
-    // Writes the line of the address by the store or swap `id` of this stamp and rank, which hits:
-    // the line becomes the most recently used. Does nothing if no line is there.
-    fn write(&mut self, addr: Addr, value: Word, id: OpId, stamp: Stamp, rank: Rank)
+    /// Makes the store or swap `id` that hits, as `peek_swap` said: these are its stamp and rank. The
+    /// line becomes the most recently used. Does nothing if no line is there. Takes no memory.
+    pub fn write(&mut self, addr: Addr, value: Word, id: OpId, stamp: Stamp, rank: Rank)
         ensures { MatchOption (line_at self.old addr)
             (self.new ≡ self.old)
             (λ _. self.new ≡ used self.old addr (stored value (Source.Store id) stamp rank)) }

@@ -7,7 +7,7 @@ mod cache;
 mod fault;
 mod held;
 
-pub use answer::{Evicted, Load, Store, Swap};
+pub use answer::{Evicted, Read, Store};
 pub use cache::PrivateCache;
 pub use fault::FillFault;
 pub use held::Held;
