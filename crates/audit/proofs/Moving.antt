@@ -16,7 +16,7 @@ use Rattle.core_unit.specs.declared.entry.CoreEntry.TheVariants.{Got}
 use Rattle.audit.specs.Lists.{transcript_of, history_of}
 use Rattle.audit.specs.Merges.{is_own}
 use Rattle.audit.specs.Pairs.{slice_of}
-use Rattle.audit.specs.inner.Fronts.{Reached, FrontsFit, SliceStuck, Stuck, Merging, IsOneOn, goes_alone, waits_for}
+use Rattle.audit.specs.inner.Fronts.{AreFronts, SliceStuck, Stuck, Merging, IsDue, IsOneOn, goes_alone, waits_for}
 use Rattle.audit.proofs.Orders.{slice_evicts}
 use Rattle.audit.proofs.Progress.{fit_slice}
 
@@ -67,9 +67,6 @@ module _ (ts : List (List CoreEntry)) (hs : List (List HistoryEntry)) where
   -- a slice was looked at, and can't go on
   pub rests : (p q due : List ℕ) (s : ℕ) → Merging ts hs p q due → s < length due → SliceStuck ts hs p q s → Merging ts hs p q (slice_set due s 0)
   rests p q due s h lt stuck = record {
-    reached = h.reached;
-    fit = h.fit;
-    cores = h.cores;
     fronts = h.fronts;
     due = length-set due s 0 ∙ h.due;
     stuck = record {
@@ -82,26 +79,28 @@ module _ (ts : List (List CoreEntry)) (hs : List (List HistoryEntry)) where
   }
 
   -- a slice evicts a line, and is looked at again
-  pub evicted : (p q due : List ℕ) (s a : ℕ) → Merging ts hs p q due → s < length q → slice_index due s ≢ 0 → slice_get (history_of hs s) (slice_index q s) ≡ Some (Evicted a)
+  pub evicted : (p q due : List ℕ) (s a : ℕ) → Merging ts hs p q due → IsDue due s → slice_get (history_of hs s) (slice_index q s) ≡ Some (Evicted a)
       → Merging ts hs p (slice_set q s (slice_index q s + 1)) due
-  evicted p q due s a h lt some at = record {
-    reached = slice_evicts ts hs p q s a h.reached lt at;
-    fit = fit_slice ts hs p q s (Evicted a) h.fit lt at;
-    cores = h.cores;
-    fronts = length-set q s (slice_index q s + 1) ∙ h.fronts;
+  evicted p q due s a h is at = record {
+    fronts = let lt : s < length q = omega (arith, is.0, h.fronts.slices) in record {
+      reached = slice_evicts ts hs p q s a h.fronts.reached lt at;
+      fit = fit_slice ts hs p q s (Evicted a) h.fronts.fit lt at;
+      cores = h.fronts.cores;
+      slices = length-set q s (slice_index q s + 1) ∙ h.fronts.slices;
+    };
     due = h.due;
     stuck = record {
       cores = h.stuck.cores;
       slices = λ t none.
-          let other : t ≢ s = λ e. some (ap (slice_index due) (sym e) ∙ none) in
+          let other : t ≢ s = λ e. is.1 (ap (slice_index due) (sym e) ∙ none) in
           stuck_still p q p _ t (h.stuck.slices t none) (get_or-set_other q s t (slice_index q s + 1) 0 other) (λ c m r right got. refl);
     };
   }
 
   -- A slice serves core c, which goes on by itself up to place p' and then waits for another slice, or for none. That slice is
   -- due for a look now.
-  module _ (p q due p' due' : List ℕ) (c s : ℕ) (h : Merging ts hs p q due) (lt : s < length q) (some : slice_index due s ≢ 0)
-      (on : IsOneOn c p p') (reached : Reached ts hs p' (slice_set q s (slice_index q s + 1))) (fit : FrontsFit ts hs p' (slice_set q s (slice_index q s + 1)))
+  module _ (p q due p' due' : List ℕ) (c s : ℕ) (h : Merging ts hs p q due) (is : IsDue due s) (on : IsOneOn c p p')
+      (fronts : AreFronts ts hs p' (slice_set q s (slice_index q s + 1)))
       (alone : goes_alone (transcript_of ts c) (slice_index p' c) ≡ false) where
     abbrev pub after : List ℕ
     after = slice_set q s (slice_index q s + 1)
@@ -116,16 +115,13 @@ module _ (ts : List (List CoreEntry)) (hs : List (List HistoryEntry)) where
         → ((t : ℕ) → slice_index due' t ≡ 0 → (slice_index due t ≡ 0) × (waits_for (length hs) (slice_get (transcript_of ts c) (slice_index p' c)) ≢ Some t))
         → Merging ts hs p' after due'
     passed count marked = record {
-      reached = reached;
-      fit = fit;
-      cores = on.count ∙ h.cores;
-      fronts = length-set q s (slice_index q s + 1) ∙ h.fronts;
+      fronts = fronts;
       due = count ∙ h.due;
       stuck = record {
         cores = no_longer_alone;
         slices = λ t none.
             let was = marked t none in
-            let other : t ≢ s = λ e. some (ap (slice_index due) (sym e) ∙ was.0) in
+            let other : t ≢ s = λ e. is.1 (ap (slice_index due) (sym e) ∙ was.0) in
             stuck_still p q p' after t (h.stuck.slices t was.0) (get_or-set_other q s t (slice_index q s + 1) 0 other)
             (λ d m r right got. elim (eqb_tells c d) [
               | inl e ↦

@@ -7,7 +7,7 @@ ghost use Rattle.manager_slice.specs.declared.managed.HistoryEntry.TheVariants.{
 ghost use Rattle.audit.specs.Lists.{transcripts, histories, transcript_of};
 ghost use Rattle.audit.specs.Merges.{HasMerge, IsAuditFault};
 ghost use Rattle.audit.specs.Pairs.{Agrees};
-ghost use Rattle.audit.specs.inner.Fronts.{Reached, Stuck};
+ghost use Rattle.audit.specs.inner.Fronts.{AreFronts, Stuck};
 
 use super::fault::AuditFault;
 use super::lists::{history_at, served_entry};
@@ -35,8 +35,7 @@ fn slices_fault(
     requires units { length units.now ≤ 64 }
     requires some { 1 ≤ length slices.now }
     requires most { length slices.now ≤ 16 }
-    requires fronts { length fronts.now ≡ 16 }
-    requires reached { Reached (transcripts units.now) (histories slices.now) cores.now fronts.now }
+    requires fronts { AreFronts (transcripts units.now) (histories slices.now) cores.now fronts.now }
     requires stuck { Stuck (transcripts units.now) (histories slices.now) cores.now fronts.now }
     requires used { (c : ℕ) → c < 64 → length (transcript_of (transcripts units.now) c) ≤ slice_index cores.now c }
     ensures { MatchResult result

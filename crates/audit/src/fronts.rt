@@ -4,7 +4,7 @@ ghost use Rattle.std.specs.Prelude.{◌≡◌, ◌≢◌, ◌<◌, ◌≤◌, �
 ghost use Rattle.std.specs.Option.{option_copied};
 ghost use Rattle.core_unit.specs.declared.entry.CoreEntry.TheVariants.{Got};
 ghost use Rattle.audit.specs.Lists.{transcripts, histories, transcript_of, history_of};
-ghost use Rattle.audit.specs.inner.Fronts.{FrontsFit, IsOneOn, Merging, Reached, SliceStuck, Small, goes_alone, waits_for};
+ghost use Rattle.audit.specs.inner.Fronts.{AreFronts, IsDue, IsOneOn, Merging, SliceStuck, Small, goes_alone, waits_for};
 ghost use Rattle.audit.specs.inner.Steps.{Enabled};
 
 use super::lists::{entry_at, history_at, is_same, served_entry, slice_of};
@@ -125,12 +125,9 @@ pub(crate) fn core_on(
     core: usize,
 )
     requires core { core < 64 }
-    requires cores { length cores.old ≡ 64 }
-    requires reached { Reached (transcripts units.now) (histories slices.now) cores.old fronts.now }
-    requires fit { FrontsFit (transcripts units.now) (histories slices.now) cores.old fronts.now }
+    requires fronts { AreFronts (transcripts units.now) (histories slices.now) cores.old fronts.now }
     requires small { Small (transcripts units.now) (histories slices.now) }
-    ensures reached { Reached (transcripts units.now) (histories slices.now) cores.new fronts.now }
-    ensures fit { FrontsFit (transcripts units.now) (histories slices.now) cores.new fronts.now }
+    ensures fronts { AreFronts (transcripts units.now) (histories slices.now) cores.new fronts.now }
     ensures on { IsOneOn core cores.old cores.new }
     ensures alone { goes_alone (transcript_of (transcripts units.now) core) (slice_index cores.new core) ≡ false }
 {
@@ -152,8 +149,7 @@ fn pass(
 )
     requires some { 0 < length slices.now }
     requires most { length slices.now ≤ 16 }
-    requires slice { slice < 16 }
-    requires due { slice_index due.old slice ≢ 0 }
+    requires due { IsDue due.old slice }
     requires small { Small (transcripts units.now) (histories slices.now) }
     requires merging { Merging (transcripts units.now) (histories slices.now) cores.old fronts.old due.old }
     requires enabled { Enabled (transcripts units.now) (histories slices.now) cores.old fronts.old slice (SliceStep.Passes core) }
@@ -181,8 +177,7 @@ pub(crate) fn move_slice(
 )
     requires some { 0 < length slices.now }
     requires most { length slices.now ≤ 16 }
-    requires slice { slice < 16 }
-    requires due { slice_index due.old slice ≢ 0 }
+    requires due { IsDue due.old slice }
     requires small { Small (transcripts units.now) (histories slices.now) }
     requires merging { Merging (transcripts units.now) (histories slices.now) cores.old fronts.old due.old }
     ensures merging { Merging (transcripts units.now) (histories slices.now) cores.new fronts.new due.new }

@@ -1,10 +1,10 @@
 //! Moves along all lists as far as one order of their entries goes.
 
-ghost use Rattle.std.specs.Prelude.{◌≡◌, ◌≢◌, ◌<◌, ◌≤◌, ℕ, MatchOption, false, is_some, length, slice_index, take};
+ghost use Rattle.std.specs.Prelude.{◌≡◌, ◌<◌, ◌≤◌, ℕ, MatchOption, false, is_some, length, slice_index, take};
 ghost use Rattle.audit.specs.Lists.{transcripts, histories, transcript_of, history_of};
 ghost use Rattle.audit.specs.Merges.{IsFirstUnmerged};
 ghost use Rattle.audit.specs.Pairs.{gots};
-ghost use Rattle.audit.specs.inner.Fronts.{FrontsFit, Merging, Reached, Small, Stuck, goes_alone};
+ghost use Rattle.audit.specs.inner.Fronts.{AreFronts, IsDue, Merging, Reached, Small, Stuck, goes_alone};
 
 use super::fault::AuditFault;
 use super::fronts::{core_on, move_slice};
@@ -34,7 +34,7 @@ fn next_due(due: &[usize]) -> Option<usize>
     requires { length due.now ≡ 16 }
     ensures { MatchOption result
         ((s : ℕ) → s < 16 → slice_index due.now s ≡ 0)
-        (λ s. (s < 16) × (slice_index due.now s ≢ 0)) }
+        (λ s. IsDue due.now s) }
 {
     for slice in 0..MAX_SLICES {
         if due[slice] != 0 {
@@ -47,13 +47,9 @@ fn next_due(due: &[usize]) -> Option<usize>
 // Moves each core on over the entries that it makes alone.
 fn cores_on(units: &[CoreUnit], slices: &[ManagerSlice], cores: &mut [usize], fronts: &[usize])
     requires units { length units.now ≤ 64 }
-    requires cores { length cores.old ≡ 64 }
-    requires reached { Reached (transcripts units.now) (histories slices.now) cores.old fronts.now }
-    requires fit { FrontsFit (transcripts units.now) (histories slices.now) cores.old fronts.now }
+    requires fronts { AreFronts (transcripts units.now) (histories slices.now) cores.old fronts.now }
     requires small { Small (transcripts units.now) (histories slices.now) }
-    ensures cores { length cores.new ≡ 64 }
-    ensures reached { Reached (transcripts units.now) (histories slices.now) cores.new fronts.now }
-    ensures fit { FrontsFit (transcripts units.now) (histories slices.now) cores.new fronts.now }
+    ensures fronts { AreFronts (transcripts units.now) (histories slices.now) cores.new fronts.now }
     ensures alone { (c : ℕ) → goes_alone (transcript_of (transcripts units.now) c) (slice_index cores.new c) ≡ false }
 {
     for core in 0..MAX_CORES {
@@ -72,14 +68,8 @@ pub(crate) fn advance(
     requires units { length units.now ≤ 64 }
     requires some { 0 < length slices.now }
     requires most { length slices.now ≤ 16 }
-    requires cores { length cores.old ≡ 64 }
-    requires fronts { length fronts.old ≡ 16 }
-    requires reached { Reached (transcripts units.now) (histories slices.now) cores.old fronts.old }
-    requires fit { FrontsFit (transcripts units.now) (histories slices.now) cores.old fronts.old }
-    ensures cores { length cores.new ≡ 64 }
-    ensures fronts { length fronts.new ≡ 16 }
-    ensures reached { Reached (transcripts units.now) (histories slices.now) cores.new fronts.new }
-    ensures fit { FrontsFit (transcripts units.now) (histories slices.now) cores.new fronts.new }
+    requires fronts { AreFronts (transcripts units.now) (histories slices.now) cores.old fronts.old }
+    ensures fronts { AreFronts (transcripts units.now) (histories slices.now) cores.new fronts.new }
     ensures stuck { Stuck (transcripts units.now) (histories slices.now) cores.new fronts.new }
 {
     lengths(units, slices);

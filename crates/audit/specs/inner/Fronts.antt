@@ -72,11 +72,19 @@ pub record IsOneOn (c : ℕ) (p q : List ℕ) : Type 0 where
   pub more : sum p ≤ sum q
   pub others : (d : ℕ) → d ≢ c → slice_index q d ≡ slice_index p d
 
--- fronts that have an order; nothing but the slices that are due for a look can go on
-pub record Merging (ts : List (List CoreEntry)) (hs : List (List HistoryEntry)) (p q due_slices : List ℕ) : Type 0 where
+-- fronts of 64 cores and 16 slices that have an order
+pub record AreFronts (ts : List (List CoreEntry)) (hs : List (List HistoryEntry)) (p q : List ℕ) : Type 0 where
   pub reached : Reached ts hs p q
   pub fit : FrontsFit ts hs p q
-  pub stuck : StuckButFor ts hs p q due_slices
   pub cores : length p ≡ 64
-  pub fronts : length q ≡ 16
+  pub slices : length q ≡ 16
+
+-- a slice is due for a look
+abbrev pub IsDue : List ℕ → ℕ → Type 0
+IsDue due s = (s < 16) × (slice_index due s ≢ 0)
+
+-- nothing but the slices that are due for a look can go on from these fronts
+pub record Merging (ts : List (List CoreEntry)) (hs : List (List HistoryEntry)) (p q due_slices : List ℕ) : Type 0 where
+  pub fronts : AreFronts ts hs p q
+  pub stuck : StuckButFor ts hs p q due_slices
   pub due : length due_slices ≡ 16

@@ -13,7 +13,7 @@ returns-in_default c =
     let hs = histories c.args.slices.now in
     let p = c.args.cores.now in
     let q = c.args.fronts.now in
-    let merge = all_merged ts hs p q c.requires.reached
+    let merge = all_merged ts hs p q c.requires.fronts.reached
     (past_all ts 64 (λ k. slice_index p k) (rw length-map c.requires.units) c.requires.used)
     (past_all hs 16 (λ k. slice_index q k) (rw length-map c.requires.most) c.in_default.ensures) in
     (merged_agrees ts hs merge, merge)
@@ -26,6 +26,6 @@ unreachable-requires c =
     let q = c.args.fronts.now in
     let s = c.in-Some.slice in
     let e = entry_there _ (slice_index q s) c.in-Some.ensures.1 in
-    no_slice_left ts hs p q c.requires.reached c.requires.stuck c.requires.used c.in-None.ensures s
+    no_slice_left ts hs p q c.requires.fronts.reached c.requires.stuck c.requires.used c.in-None.ensures s
     (λ d m r at. c.server_in_range.ensures d m r (ap (λ h. slice_get h (slice_index q s)) c.history_at.ensures ∙ at))
     e.0 (list_there hs s (slice_index q s) c.in-Some.ensures.1) e.1

@@ -1,4 +1,5 @@
 use Rattle.std.proofs.Common.{◌≡◌, ◌<◌, length, slice_index, sym, ◌∙◌, arith, true}
+use Rattle.std.proofs.lemmas.List.{length-set}
 use Rattle.audit.specs.Lists.{transcripts, histories, transcript_of}
 use Rattle.audit.specs.inner.Fronts.{goes_alone}
 use Rattle.audit.proofs.Moving.{own_there, one_on, on_again, sum_on}
@@ -11,13 +12,18 @@ loop-cores-preserved c =
     let ts = transcripts c.args.units.now in
     let hs = histories c.args.slices.now in
     let p = c.loop-cores.cores in
-    let within : c.args.core < length p = omega (arith, c.requires.core, c.requires.cores, c.loop-cores.invariant.on.count) in
+    let was = c.loop-cores.invariant.fronts in
+    let within : c.args.core < length p = omega (arith, c.requires.core, c.requires.fronts.cores, c.loop-cores.invariant.on.count) in
     let goes : goes_alone (transcript_of ts c.args.core) (slice_index p c.args.core) ≡ true =
     sym c.is_alone.ensures ∙ c.loop-cores-test.true in
     let e = own_there (transcript_of ts c.args.core) (slice_index p c.args.core) goes in
     rw c.bump.ensures (record {
-      reached = core_alone ts hs p c.args.fronts.now c.args.core e.0 c.loop-cores.invariant.reached within e.1 e.2;
-      fit = fit_core ts hs p c.args.fronts.now c.args.core e.0 c.loop-cores.invariant.fit within e.1;
+      fronts = record {
+        reached = core_alone ts hs p c.args.fronts.now c.args.core e.0 was.reached within e.1 e.2;
+        fit = fit_core ts hs p c.args.fronts.now c.args.core e.0 was.fit within e.1;
+        cores = length-set p c.args.core _ ∙ was.cores;
+        slices = was.slices;
+      };
       on = on_again c.args.core c.args.cores.now p _ c.loop-cores.invariant.on (one_on p c.args.core within);
     })
 
@@ -26,10 +32,10 @@ loop-cores-smaller c =
     let ts = transcripts c.args.units.now in
     let hs = histories c.args.slices.now in
     let p = c.loop-cores.cores in
-    let within : c.args.core < length p = omega (arith, c.requires.core, c.requires.cores, c.loop-cores.invariant.on.count) in
+    let within : c.args.core < length p = omega (arith, c.requires.core, c.requires.fronts.cores, c.loop-cores.invariant.on.count) in
     let goes : goes_alone (transcript_of ts c.args.core) (slice_index p c.args.core) ≡ true =
     sym c.is_alone.ensures ∙ c.loop-cores-test.true in
     let e = own_there (transcript_of ts c.args.core) (slice_index p c.args.core) goes in
-    let fit = fit_core ts hs p c.args.fronts.now c.args.core e.0 c.loop-cores.invariant.fit within e.1 in
+    let fit = fit_core ts hs p c.args.fronts.now c.args.core e.0 c.loop-cores.invariant.fronts.fit within e.1 in
     let most = sum_fits ts _ fit.cores in
     rw c.bump.ensures (omega (arith, most, sum_on p c.args.core within))

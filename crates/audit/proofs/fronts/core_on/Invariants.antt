@@ -1,12 +1,11 @@
 use Rattle.std.proofs.Common.{◌-◌, length, map, sum}
 use Rattle.audit.specs.Lists.{transcripts, histories}
-use Rattle.audit.specs.inner.Fronts.{Reached, FrontsFit, IsOneOn}
+use Rattle.audit.specs.inner.Fronts.{AreFronts, IsOneOn}
 use Rattle.audit.proofs.fronts.core_on.Given as goal
 
 abbrev pub invariant-loop-cores : goal.invariant-loop-cores
 invariant-loop-cores l = record {
-  reached : Reached (transcripts l.units) (histories l.slices) l.cores l.fronts;
-  fit : FrontsFit (transcripts l.units) (histories l.slices) l.cores l.fronts;
+  fronts : AreFronts (transcripts l.units) (histories l.slices) l.cores l.fronts;
   on : IsOneOn l.core l.initial.cores l.cores;
 }
 

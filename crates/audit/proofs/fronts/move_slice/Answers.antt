@@ -1,4 +1,4 @@
-use Rattle.std.proofs.Common.{◌<◌, length, arith, subst}
+use Rattle.std.proofs.Common.{subst}
 use Rattle.audit.specs.Lists.{transcripts, histories}
 use Rattle.audit.specs.inner.Steps.{Enabled}
 use Rattle.audit.specs.declared.fronts.SliceStep.{SliceStep}
@@ -9,7 +9,6 @@ pub returns-in-Some-Evicts-clause-merging : goal.returns-in-Some-Evicts-clause-m
 returns-in-Some-Evicts-clause-merging c =
     let ts = transcripts c.args.units.now in
     let hs = histories c.args.slices.now in
-    let within : c.args.slice < length c.args.fronts.now = omega (arith, c.requires.slice, c.requires.merging.fronts) in
     let E : SliceStep → Type 0 = λ step. Enabled ts hs c.args.cores.now c.args.fronts.now c.args.slice step in
     let en = subst E c.in-Some-Evicts.field-0-is c.in-Some-Evicts.ensures in
-    rw c.bump.ensures (evicted ts hs c.args.cores.now c.args.fronts.now c.args.due.now c.args.slice en.0 c.requires.merging within c.requires.due en.1)
+    rw c.bump.ensures (evicted ts hs c.args.cores.now c.args.fronts.now c.args.due.now c.args.slice en.0 c.requires.merging c.requires.due en.1)

@@ -10,20 +10,18 @@ use Rattle.audit.proofs.Orders.{message_passes}
 use Rattle.audit.proofs.Progress.{fit_core, fit_slice}
 use Rattle.audit.proofs.fronts.pass.Goals as goal
 
-pub core_on-requires-clause-reached : goal.core_on-requires-clause-reached
-core_on-requires-clause-reached c =
+pub core_on-requires-clause-fronts : goal.core_on-requires-clause-fronts
+core_on-requires-clause-fronts c =
     let en = c.requires.enabled in
-    let within : c.args.slice < length c.args.fronts.now = omega (arith, c.requires.slice, c.requires.merging.fronts) in
-    rw (c.bump.ensures, c.bump-2.ensures)
-    (message_passes _ _ c.args.cores.now c.args.fronts.now c.args.core c.args.slice en.1.0 en.1.1 c.requires.merging.reached en.0 within en.1.2 en.1.3 en.1.4)
-
-pub core_on-requires-clause-fit : goal.core_on-requires-clause-fit
-core_on-requires-clause-fit c =
-    let en = c.requires.enabled in
-    let within : c.args.slice < length c.args.fronts.now = omega (arith, c.requires.slice, c.requires.merging.fronts) in
-    rw (c.bump.ensures, c.bump-2.ensures)
-    (fit_slice _ _ _ c.args.fronts.now c.args.slice (Served c.args.core en.1.0 en.1.1)
-    (fit_core _ _ c.args.cores.now c.args.fronts.now c.args.core (Got en.1.0 en.1.1) c.requires.merging.fit en.0 en.1.2) within en.1.3)
+    let was = c.requires.merging.fronts in
+    let within : c.args.slice < length c.args.fronts.now = omega (arith, c.requires.due.0, was.slices) in
+    rw (c.bump.ensures, c.bump-2.ensures) (record {
+      reached = message_passes _ _ c.args.cores.now c.args.fronts.now c.args.core c.args.slice en.1.0 en.1.1 was.reached en.0 within en.1.2 en.1.3 en.1.4;
+      fit = fit_slice _ _ _ c.args.fronts.now c.args.slice (Served c.args.core en.1.0 en.1.1)
+          (fit_core _ _ c.args.cores.now c.args.fronts.now c.args.core (Got en.1.0 en.1.1) was.fit en.0 en.1.2) within en.1.3;
+      cores = length-set c.args.cores.now c.args.core _ ∙ was.cores;
+      slices = length-set c.args.fronts.now c.args.slice _ ∙ was.slices;
+    })
 
 pub returns-clause-merging : goal.returns-clause-merging
 returns-clause-merging c =
@@ -31,24 +29,22 @@ returns-clause-merging c =
     let hs = histories c.args.slices.now in
     let p = c.args.cores.now in
     let q = c.args.fronts.now in
-    let within : c.args.slice < length q = omega (arith, c.requires.slice, c.requires.merging.fronts) in
     let count : length c.args.slices.now ≡ length hs = sym (length-map c.args.slices.now (λ s. s.history)) in
     let below : c.in-Some.waited < length c.args.due.now = omega (arith, c.in-Some.ensures.in_range, c.requires.most, c.requires.merging.due) in
     let waits : waits_for (length hs) (slice_get (transcript_of ts c.args.core) (slice_index c.core_on.new.cores c.args.core)) ≡ Some c.in-Some.waited =
     ap (λ n. waits_for n (slice_get (transcript_of ts c.args.core) (slice_index c.core_on.new.cores c.args.core))) (sym count)
     ∙ sym c.in-Some.ensures.value in
     let on = on_again c.args.core p _ _ (one_on p c.args.core c.requires.enabled.0) (rw c.bump.ensures at c.core_on.ensures.on) in
-    let reached = rw c.bump-2.ensures at c.core_on.ensures.reached in
-    let fit = rw c.bump-2.ensures at c.core_on.ensures.fit in
+    let fronts = rw c.bump-2.ensures at c.core_on.ensures.fronts in
     rw (c.bump-2.ensures, c.set_due.ensures)
-    (passed ts hs p q c.args.due.now c.core_on.new.cores (slice_set c.args.due.now c.in-Some.waited 1) c.args.core c.args.slice c.requires.merging within c.requires.due on reached fit
+    (passed ts hs p q c.args.due.now c.core_on.new.cores (slice_set c.args.due.now c.in-Some.waited 1) c.args.core c.args.slice c.requires.merging c.requires.due on fronts
     c.core_on.ensures.alone (length-set c.args.due.now c.in-Some.waited 1) (mark c.args.due.now c.in-Some.waited _ below waits))
 
 pub returns-clause-less : goal.returns-clause-less
 returns-clause-less c =
     let p = c.args.cores.now in
     let q = c.args.fronts.now in
-    let within : c.args.slice < length q = omega (arith, c.requires.slice, c.requires.merging.fronts) in
+    let within : c.args.slice < length q = omega (arith, c.requires.due.0, c.requires.merging.fronts.slices) in
     let below : c.in-Some.waited < length c.args.due.now = omega (arith, c.in-Some.ensures.in_range, c.requires.most, c.requires.merging.due) in
     let core = rw c.bump.ensures at c.core_on.ensures.on.more in
     rw (c.bump-2.ensures, c.set_due.ensures)

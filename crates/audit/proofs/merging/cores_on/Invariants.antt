@@ -1,12 +1,10 @@
-use Rattle.std.proofs.Common.{ℕ, ◌≡◌, ◌<◌, false, length, slice_index}
+use Rattle.std.proofs.Common.{ℕ, ◌≡◌, ◌<◌, false, slice_index}
 use Rattle.audit.specs.Lists.{transcripts, histories, transcript_of}
-use Rattle.audit.specs.inner.Fronts.{Reached, FrontsFit, goes_alone}
+use Rattle.audit.specs.inner.Fronts.{AreFronts, goes_alone}
 use Rattle.audit.proofs.merging.cores_on.Given as goal
 
 abbrev pub invariant-loop-core : goal.invariant-loop-core
 invariant-loop-core l = record {
-  cores : length l.cores ≡ 64;
-  reached : Reached (transcripts l.units) (histories l.slices) l.cores l.fronts;
-  fit : FrontsFit (transcripts l.units) (histories l.slices) l.cores l.fronts;
+  fronts : AreFronts (transcripts l.units) (histories l.slices) l.cores l.fronts;
   alone : (c : ℕ) → c < l.core → goes_alone (transcript_of (transcripts l.units) c) (slice_index l.cores c) ≡ false;
 }
