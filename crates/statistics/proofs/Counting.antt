@@ -9,7 +9,7 @@ use Rattle.manager_slice.specs.declared.managed.HistoryEntry.{HistoryEntry}
 use Rattle.core_unit.specs.declared.entry.CoreEntry.{CoreEntry}
 use Rattle.core_unit.specs.declared.entry.CoreEntry.TheVariants.{Performed, Dropped, Gave, Got, Bumped}
 use Rattle.statistics.specs.Columns.{by_place, column_at, column_count, counted, counts}
-use Rattle.statistics.specs.Sights.{brings_line, has_come, is_operation, kind_at, seen, seen_back}
+use Rattle.statistics.specs.Sights.{brings_line, has_come, is_operation, act_at, seen, seen_back}
 use Rattle.statistics.specs.declared.sight.Sight.{Sight}
 use Rattle.statistics.specs.declared.sight.Sight.TheVariants.{Operation, Core, Slice}
 use Rattle.statistics.specs.inner.Counting.{IsCounted}
@@ -91,7 +91,7 @@ few_seen period log es i n lt few = omega (arith, length_seen period log (revers
 module _ (period : ℕ) (log : List Record) (es : List CoreEntry) (i : ℕ) (old new : List ℕ) (done : ℕ) (came : Bool) (e : CoreEntry)
     (lt : i < length es) (at : get_or es i e ≡ e) (far : SoFar period log es i old done came) where
   pub one_operation : is_operation e ≡ true
-      → IsCounted new (seen_back period log (reverse (take i es)) ++ Operation (kind_at log done) came ((done + 1) % period == 0) ∷ []) → SoFar period log es (i + 1) new (done + 1) false
+      → IsCounted new (seen_back period log (reverse (take i es)) ++ Operation (act_at log done) came ((done + 1) % period == 0) ∷ []) → SoFar period log es (i + 1) new (done + 1) false
   one_operation holds told =
       let more = reverse_more es i Performed lt (subst (λ (x : CoreEntry). get_or es i x ≡ x) (is_performed e holds) at) in
       let front = sum_by-cons (λ x. cond (is_operation x) 1 0) Performed (reverse (take i es)) in

@@ -4,11 +4,12 @@ use Rattle.std.proofs.lemmas.List.{length-take, take_more}
 use Rattle.csv_lines.specs.Lines.{cells_line}
 use Rattle.decimal_text.specs.Numbers.{numeral}
 use Rattle.statistics.specs.Columns.{column_at}
-use Rattle.statistics.specs.TableText.{cell_at, has_column, lines_from}
+use Rattle.statistics.specs.TableText.{cell_at, has_column, lines_from, part_cells}
 use Rattle.statistics.specs.Totals.{number_in}
 use Rattle.statistics.specs.declared.column.Column.{Column}
 use Rattle.statistics.specs.declared.numbers.Numbers.{Numbers}
 use Rattle.statistics.specs.declared.run_totals.RunTotals.{RunTotals}
+use Rattle.statistics.specs.declared.table_text.Part.{Part}
 use Rattle.statistics.specs.declared.table_text.Whose.{Whose}
 
 -- the cell of a column that the line has, and of one that it hasn't
@@ -21,25 +22,25 @@ pub blank_cell : (w : Whose) (t : RunTotals) (place : ℕ) (column : Column) →
 unfolding cell_at
 blank_cell w t place column is has = rw (← is, has)
 
-lines_push : (cells : ℕ → Numbers → List (List ℕ)) (k : ℕ) (xs : List Numbers) (y : Numbers) → lines_from cells k (xs ++ y ∷ []) ≡ lines_from cells k xs ++ cells_line (cells (k + length xs) y)
-lines_push cells k [] y =
+lines_push : (part : Part) (k : ℕ) (xs : List Numbers) (y : Numbers) → lines_from part k (xs ++ y ∷ []) ≡ lines_from part k xs ++ cells_line (part_cells part (k + length xs) y)
+lines_push part k [] y =
     let at : k + 0 ≡ k = omega arith in
-    rw at (append-nil (cells_line (cells k y)))
-lines_push cells k (x ∷ xs) y =
+    rw at (append-nil (cells_line (part_cells part k y)))
+lines_push part k (x ∷ xs) y =
     let at : k + 1 + length xs ≡ k + length (x ∷ xs) = omega arith in
-    ap (λ t. cells_line (cells k x) ++ t) (lines_push cells (k + 1) xs y ∙ ap (λ n. lines_from cells (k + 1) xs ++ cells_line (cells n y)) at)
-    ∙ sym (append_assoc (cells_line (cells k x)) (lines_from cells (k + 1) xs) (cells_line (cells (k + length (x ∷ xs)) y)))
+    ap (λ t. cells_line (part_cells part k x) ++ t) (lines_push part (k + 1) xs y ∙ ap (λ n. lines_from part (k + 1) xs ++ cells_line (part_cells part n y)) at)
+    ∙ sym (append_assoc (cells_line (part_cells part k x)) (lines_from part (k + 1) xs) (cells_line (part_cells part (k + length (x ∷ xs)) y)))
 
-lines_more : (cells : ℕ → Numbers → List (List ℕ)) (xs : List Numbers) (i : ℕ) (d : Numbers) → i < length xs
-    → lines_from cells 0 (take (i + 1) xs) ≡ lines_from cells 0 (take i xs) ++ cells_line (cells i (get_or xs i d))
-lines_more cells xs i d lt =
+lines_more : (part : Part) (xs : List Numbers) (i : ℕ) (d : Numbers) → i < length xs
+    → lines_from part 0 (take (i + 1) xs) ≡ lines_from part 0 (take i xs) ++ cells_line (part_cells part i (get_or xs i d))
+lines_more part xs i d lt =
     let at : 0 + length (take i xs) ≡ i = omega (arith, length-take i xs) in
-    ap (lines_from cells 0) (take_more xs i d lt) ∙ lines_push cells 0 (take i xs) (get_or xs i d) ∙ ap (λ n. lines_from cells 0 (take i xs) ++ cells_line (cells n (get_or xs i d))) at
+    ap (lines_from part 0) (take_more xs i d lt) ∙ lines_push part 0 (take i xs) (get_or xs i d) ∙ ap (λ n. lines_from part 0 (take i xs) ++ cells_line (part_cells part n (get_or xs i d))) at
 
 -- the text after the line of one core or slice more
-pub line_more : (cells : ℕ → Numbers → List (List ℕ)) (xs : List Numbers) (i : ℕ) (d : Numbers) (first before after : List ℕ) (made : List (List ℕ)) → i < length xs
-    → before ≡ first ++ lines_from cells 0 (take i xs) → after ≡ before ++ cells_line made → made ≡ cells i (get_or xs i d)
-    → after ≡ first ++ lines_from cells 0 (take (i + 1) xs)
-line_more cells xs i d first before after made lt was written is =
-    written ∙ ap (λ t. t ++ cells_line made) was ∙ append_assoc first (lines_from cells 0 (take i xs)) (cells_line made)
-    ∙ ap (λ t. first ++ t) (ap (λ m. lines_from cells 0 (take i xs) ++ cells_line m) is ∙ sym (lines_more cells xs i d lt))
+pub line_more : (part : Part) (xs : List Numbers) (i : ℕ) (d : Numbers) (first before after : List ℕ) (made : List (List ℕ)) → i < length xs
+    → before ≡ first ++ lines_from part 0 (take i xs) → after ≡ before ++ cells_line made → made ≡ part_cells part i (get_or xs i d)
+    → after ≡ first ++ lines_from part 0 (take (i + 1) xs)
+line_more part xs i d first before after made lt was written is =
+    written ∙ ap (λ t. t ++ cells_line made) was ∙ append_assoc first (lines_from part 0 (take i xs)) (cells_line made)
+    ∙ ap (λ t. first ++ t) (ap (λ m. lines_from part 0 (take i xs) ++ cells_line m) is ∙ sym (lines_more part xs i d lt))

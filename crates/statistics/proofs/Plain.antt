@@ -11,15 +11,16 @@ use Rattle.statistics.specs.Totals.{number_in}
 use Rattle.statistics.specs.declared.column.Column.{Column}
 use Rattle.statistics.specs.declared.column.Column.TheVariants.{Operations, Loads, Stores, Swaps, Hits, ShReq, ExReq, Renewals, Upgrades, WbRep, FlushRep, Dropped, SelfIncrements, Pts, Requests, GiveBacks, Evictions, Mts, PrivateWrites, Rank}
 use Rattle.statistics.specs.declared.run_totals.RunTotals.{RunTotals}
+use Rattle.statistics.specs.declared.table_text.Part.TheVariants as part
 use Rattle.statistics.specs.declared.table_text.Whose.{Whose}
 use Rattle.statistics.specs.declared.table_text.Whose.TheVariants as whose
 
 plain_whose : (w : Whose) → IsPlain (whose_name w)
-plain_whose (whose.Core n) =
+plain_whose (whose.One part.Core n) =
     plain_cons 99 (codes "ore " ++ numeral n) refl (plain_cons 111 (codes "re " ++ numeral n) refl (plain_cons 114 (codes "e " ++ numeral n) refl
     (plain_cons 101 (codes " " ++ numeral n) refl (plain_cons 32 (numeral n) refl (plain_number n)))))
 plain_whose whose.Cores = refl
-plain_whose (whose.Slice n) =
+plain_whose (whose.One part.Slice n) =
     plain_cons 115 (codes "lice " ++ numeral n) refl (plain_cons 108 (codes "ice " ++ numeral n) refl (plain_cons 105 (codes "ce " ++ numeral n) refl
     (plain_cons 99 (codes "e " ++ numeral n) refl (plain_cons 101 (codes " " ++ numeral n) refl (plain_cons 32 (numeral n) refl (plain_number n))))))
 plain_whose whose.Runs = refl

@@ -7,6 +7,7 @@ use Rattle.line_stamps.specs.Messages.{addr_of}
 use Rattle.line_stamps.specs.declared.message.Message.{Message}
 use Rattle.line_stamps.specs.declared.message.Reply.{Reply}
 use Rattle.lease_rule.specs.ConfigParts.{ConfigParts}
+use Rattle.log_record.specs.declared.act.Act.TheVariants as act
 use Rattle.log_record.specs.declared.record.Record.{Record}
 use Rattle.manager_slice.specs.declared.managed.HistoryEntry.{HistoryEntry}
 use Rattle.manager_slice.specs.declared.managed.HistoryEntry.TheVariants.{Evicted, Served}
@@ -23,7 +24,6 @@ use Rattle.statistics.specs.Columns.{counts}
 use Rattle.statistics.specs.Laws.{LogsAreCounted, SumsAgree, count_of, is_got_from, is_served_to}
 use Rattle.statistics.specs.Sights.{core_sights, is_operation, seen, seen_back}
 use Rattle.statistics.specs.declared.column.Column.TheVariants.{Operations, Loads, Stores, Swaps}
-use Rattle.statistics.specs.declared.sight.Kind.TheVariants.{Load, Store, Swap}
 use Rattle.statistics.specs.declared.sight.Sight.{Sight}
 use Rattle.statistics.specs.declared.sight.Sight.TheVariants.{Operation, Core, Slice}
 
@@ -76,11 +76,11 @@ reversed (e ∷ es) =
     let front = sum_by-cons (λ x. cond (is_operation x) 1 0) e es in
     ap (count_by is_operation) (reverse-append (e ∷ []) es) ∙ (sum_by_push (λ x. cond (is_operation x) 1 0) (reverse es) e ∙ omega (arith, front, reversed es))
 
--- each is of one kind
+-- each has one act
 one_kind : (s : Sight) → cond (counts Loads s) 1 0 + cond (counts Stores s) 1 0 + cond (counts Swaps s) 1 0 ≡ cond (counts Operations s) 1 0
-one_kind (Operation Load came due) = refl
-one_kind (Operation Store came due) = refl
-one_kind (Operation Swap came due) = refl
+one_kind (Operation (act.Load source) came due) = refl
+one_kind (Operation act.Store came due) = refl
+one_kind (Operation (act.Swap source word) came due) = refl
 one_kind (Core e) = refl
 one_kind (Slice e) = refl
 

@@ -1,6 +1,6 @@
 -- What the columns look at: the entries of a core's transcript with what they need of its past, and those of a slice's history. A Busy
 -- makes no entry in either.
-use Rattle.std.specs.Prelude.{ℕ, ◌+◌, ◌%◌, Bool, true, false, ◌||◌, ◌==◌, not, if◌then◌else◌, List, [], ◌∷◌, ◌++◌, count_by, map, reverse, slice_get}
+use Rattle.std.specs.Prelude.{ℕ, ◌+◌, ◌%◌, Bool, true, false, ◌||◌, ◌==◌, if◌then◌else◌, List, [], ◌∷◌, ◌++◌, count_by, map, reverse, slice_get}
 use Rattle.std.specs.Option.{option_map_or}
 use Rattle.log_record.specs.declared.act.Act.{Act}
 use Rattle.log_record.specs.declared.act.Act.TheVariants as act
@@ -10,8 +10,6 @@ use Rattle.manager_slice.specs.Parts.{SliceParts}
 use Rattle.core_unit.specs.Parts.{UnitParts}
 use Rattle.core_unit.specs.declared.entry.CoreEntry.{CoreEntry}
 use Rattle.core_unit.specs.declared.entry.CoreEntry.TheVariants.{Performed, Got, Bumped}
-use Rattle.statistics.specs.declared.sight.Kind.{Kind}
-use Rattle.statistics.specs.declared.sight.Kind.TheVariants.{Load, Store, Swap}
 use Rattle.statistics.specs.declared.sight.Sight.{Sight}
 use Rattle.statistics.specs.declared.sight.Sight.TheVariants as sight
 
@@ -37,19 +35,14 @@ has_come (e ∷ before) = if is_operation e then false else (brings_line e || ha
 
 -- ---- what is seen of a core and of a slice
 
-abbrev pub kind_of : Act → Kind
-kind_of (act.Load source) = Load
-kind_of act.Store = Store
-kind_of (act.Swap source word) = Swap
-
--- the kind of the operation at a place of a log, which has a record for each operation (`LogsAreCounted`)
-abbrev pub kind_at : List Record → ℕ → Kind
-kind_at log place = option_map_or (λ r. kind_of r.act) (slice_get log place) Load
+-- the act of the operation at a place of a log, which has a record for each operation (`LogsAreCounted`)
+abbrev pub act_at : List Record → ℕ → Act
+act_at log place = option_map_or (λ r. r.act) (slice_get log place) act.Store
 
 -- what is seen of an entry; the entries before it come with the last one first
 abbrev pub seen : ℕ → List Record → CoreEntry → List CoreEntry → Sight
 seen period log Performed before =
-    let done = count_by is_operation before in sight.Operation (kind_at log done) (has_come before) ((done + 1) % period == 0)
+    let done = count_by is_operation before in sight.Operation (act_at log done) (has_come before) ((done + 1) % period == 0)
 seen period log e before = sight.Core e
 
 -- what is seen of these entries, which come with the last one first, in the order in which they were made
@@ -62,20 +55,3 @@ core_sights u = seen_back u.config.period u.log (reverse u.transcript)
 
 abbrev pub slice_sights : SliceParts → List Sight
 slice_sights s = map (λ e. sight.Slice e) s.history
-
--- ---- operations
-
-abbrev pub same_kind : Kind → Kind → Bool
-same_kind Load Load = true
-same_kind Store Store = true
-same_kind Swap Swap = true
-same_kind kind other = false
-
-abbrev pub is_of : Kind → Sight → Bool
-is_of kind (sight.Operation own came due) = same_kind kind own
-is_of kind other = false
-
--- no line came for it since the operation before it
-abbrev pub is_hit : Sight → Bool
-is_hit (sight.Operation kind came due) = not came
-is_hit other = false

@@ -1,3 +1,2 @@
 -- Definitions that serve private contracts alone.
 pub mod Counting
-pub mod Stamps

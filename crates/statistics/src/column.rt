@@ -3,9 +3,10 @@
 ghost use Rattle.std.specs.Prelude.{◌≡◌, ◌<◌};
 ghost use Rattle.statistics.specs.Columns.{column_at, column_name, counts, is_of_slices};
 
-use super::sight::{Kind, Sight};
+use super::sight::Sight;
 use core_unit::CoreEntry;
 use line_stamps::{Message, Reply};
+use log_record::Act;
 use manager_slice::HistoryEntry;
 
 /// A column of the table.
@@ -114,9 +115,21 @@ impl Column {
     {
         match self {
             Column::Operations => matches!(sight, Sight::Operation { .. }),
-            Column::Loads => sight.is_of(Kind::Load),
-            Column::Stores => sight.is_of(Kind::Store),
-            Column::Swaps => sight.is_of(Kind::Swap),
+            Column::Loads => sight.is_load(),
+            Column::Stores => matches!(
+                sight,
+                Sight::Operation {
+                    act: Act::Store,
+                    ..
+                }
+            ),
+            Column::Swaps => matches!(
+                sight,
+                Sight::Operation {
+                    act: Act::Swap(..),
+                    ..
+                }
+            ),
             Column::Hits => sight.is_hit(),
             Column::ShReq => matches!(sight, Sight::Core(CoreEntry::Got(Message::ShReq { .. }, _))),
             Column::ExReq => matches!(sight, Sight::Core(CoreEntry::Got(Message::ExReq { .. }, _))),
@@ -141,7 +154,7 @@ impl Column {
             Column::Requests => sight.is_request(),
             Column::GiveBacks => sight.is_give_back(),
             Column::Evictions => matches!(sight, Sight::Slice(HistoryEntry::Evicted(_))),
-            Column::PrivateWrites => sight.is_hit() && !sight.is_of(Kind::Load),
+            Column::PrivateWrites => sight.is_hit() && !sight.is_load(),
             Column::Pts | Column::Mts | Column::Rank => false,
         }
     }

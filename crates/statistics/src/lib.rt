@@ -8,7 +8,6 @@ mod run_counts;
 mod run_parts;
 mod run_totals;
 mod sight;
-mod stamps;
 mod table_text;
 
 pub use numbers::Numbers;

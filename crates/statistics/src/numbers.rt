@@ -8,8 +8,7 @@ ghost use Rattle.statistics.specs.declared.sight.Sight.{Sight};
 ghost use Rattle.statistics.specs.inner.Counting.{IsCounted};
 
 use super::column::{COLUMN_COUNT, column_at};
-use super::sight::{Sight, entry_there, has_come, is_operation, kind_at};
-use super::stamps::last_pts;
+use super::sight::{Sight, act_at, entry_there, has_come, is_operation};
 use core_unit::{CoreUnit, Transcript};
 use log_record::Record;
 use manager_slice::{HistoryEntry, ManagerSlice};
@@ -36,7 +35,7 @@ impl Numbers {
         let period = unit.config().period();
         Numbers {
             counts: count_entries(unit.transcript(), log, period),
-            pts: last_pts(unit),
+            pts: unit.pts().get(),
             rank: greatest_rank(log),
             mts: 0,
         }
@@ -66,9 +65,9 @@ fn count_entries(transcript: &Transcript, log: &[Record], period: u64) -> [u32; 
     for place in 0..transcript.len() {
         let entry = entry_there(transcript, place);
         if is_operation(&entry) {
-            let kind = kind_at(log, done);
+            let act = act_at(log, done);
             let due = (done as u64 + 1) % period == 0;
-            count(&mut counts, &Sight::Operation { kind, came, due });
+            count(&mut counts, &Sight::Operation { act, came, due });
             done += 1;
             came = false;
         } else {

@@ -1,30 +1,22 @@
 //! The sights that the columns count: the entries of a core's transcript, with what the columns need of its past, and those of a
 //! slice's history.
 
-ghost use Rattle.std.specs.Prelude.{◌≡◌, ◌<◌, ◌||◌, get_or, length, not};
-ghost use Rattle.manager_slice.specs.Messages.{is_request};
-ghost use Rattle.statistics.specs.Columns.{has_served};
-ghost use Rattle.statistics.specs.Sights.{brings_line, is_hit, is_of, is_operation, kind_at};
+ghost use Rattle.std.specs.Prelude.{◌≡◌, ◌<◌, ◌||◌, get_or, length};
+ghost use Rattle.statistics.specs.Columns.{counts};
+ghost use Rattle.statistics.specs.Sights.{act_at, brings_line, is_operation};
 
+use super::column::Column;
 use core_unit::{CoreEntry, Transcript};
 use line_stamps::Message;
 use log_record::{Act, Record};
 use manager_slice::HistoryEntry;
-
-/// A kind of operation.
-#[derive(Clone, Copy, Debug, PartialEq, Eq)]
-pub(crate) enum Kind {
-    Load,
-    Store,
-    Swap,
-}
 
 /// A sight that columns count.
 #[derive(Clone, Copy, Debug, PartialEq, Eq)]
 pub(crate) enum Sight {
     /// A core performed an operation. `came` says whether a line came since the operation before, and `due` whether a period ended
     /// with it.
-    Operation { kind: Kind, came: bool, due: bool },
+    Operation { act: Act, came: bool, due: bool },
     /// Another entry of a core.
     Core(CoreEntry),
     /// An entry of a slice.
@@ -32,33 +24,29 @@ pub(crate) enum Sight {
 }
 
 impl Sight {
-    /// Whether it is an operation of this kind.
-    pub(crate) fn is_of(&self, kind: Kind) -> bool
-        ensures { result ≡ is_of kind self.now }
+    /// Whether it is a load.
+    pub(crate) fn is_load(&self) -> bool
+        ensures { result ≡ counts Column.Loads self.now }
     {
-        match self {
-            Sight::Operation { kind: own, .. } => match kind {
-                Kind::Load => matches!(own, Kind::Load),
-                Kind::Store => matches!(own, Kind::Store),
-                Kind::Swap => matches!(own, Kind::Swap),
-            },
-            Sight::Core(_) | Sight::Slice(_) => false,
-        }
+        matches!(
+            self,
+            Sight::Operation {
+                act: Act::Load(_),
+                ..
+            }
+        )
     }
 
     /// Whether it is an operation for which no line came since the operation before.
     pub(crate) fn is_hit(&self) -> bool
-        ensures { result ≡ is_hit self.now }
+        ensures { result ≡ counts Column.Hits self.now }
     {
-        match self {
-            Sight::Operation { came, .. } => !*came,
-            Sight::Core(_) | Sight::Slice(_) => false,
-        }
+        matches!(self, Sight::Operation { came: false, .. })
     }
 
     /// Whether a slice answered a request.
     pub(crate) fn is_request(&self) -> bool
-        ensures { result ≡ has_served is_request self.now }
+        ensures { result ≡ counts Column.Requests self.now }
     {
         matches!(
             self,
@@ -68,7 +56,7 @@ impl Sight {
 
     /// Whether a slice answered a give-back.
     pub(crate) fn is_give_back(&self) -> bool
-        ensures { result ≡ has_served (λ m. not (is_request m)) self.now }
+        ensures { result ≡ counts Column.GiveBacks self.now }
     {
         matches!(
             self,
@@ -81,17 +69,13 @@ impl Sight {
     }
 }
 
-/// The kind of the operation at a place of a log. A log has a record for each operation, by `logs_are_counted`.
-pub(crate) fn kind_at(log: &[Record], place: usize) -> Kind
-    ensures { result ≡ kind_at log.now place }
+/// The act of the operation at a place of a log. A log has a record for each operation, by `logs_are_counted`.
+pub(crate) fn act_at(log: &[Record], place: usize) -> Act
+    ensures { result ≡ act_at log.now place }
 {
-    let Some(record) = log.get(place) else {
-        return Kind::Load;
-    };
-    match record.act() {
-        Act::Load(_) => Kind::Load,
-        Act::Store => Kind::Store,
-        Act::Swap(..) => Kind::Swap,
+    match log.get(place) {
+        Some(record) => record.act(),
+        None => Act::Store,
     }
 }
 

@@ -13,13 +13,20 @@ use csv::{StringRecord, Writer};
 use csv_lines::{new_writer, push_blank, push_number, text_of, write_line};
 use std::alloc::{AllocError, Global};
 
+/// A part of a machine that has numbers of its own.
+#[derive(Clone, Copy, Debug, PartialEq, Eq)]
+pub(crate) enum Part {
+    Core,
+    Slice,
+}
+
 /// Whose numbers a line has.
 #[derive(Clone, Copy, Debug, PartialEq, Eq)]
 pub(crate) enum Whose {
-    Core(usize),
+    /// One core or slice, by its number.
+    One(Part, usize),
     /// All cores.
     Cores,
-    Slice(usize),
     /// All runs.
     Runs,
 }
@@ -31,8 +38,8 @@ impl Whose {
         ensures { IfOk result (λ name. string_bytes name ≡ text.whose_name self) }
     {
         match self {
-            Whose::Core(number) => format!(in alloc; "core {number}"),
-            Whose::Slice(number) => format!(in alloc; "slice {number}"),
+            Whose::One(Part::Core, number) => format!(in alloc; "core {number}"),
+            Whose::One(Part::Slice, number) => format!(in alloc; "slice {number}"),
             Whose::Cores | Whose::Runs => format!(in alloc; "total"),
         }
     }
@@ -42,8 +49,8 @@ impl Whose {
         ensures { result ≡ text.has_column self column }
     {
         match self {
-            Whose::Core(_) | Whose::Cores => !column.is_of_slices(),
-            Whose::Slice(_) => column.is_of_slices(),
+            Whose::One(Part::Core, _) | Whose::Cores => !column.is_of_slices(),
+            Whose::One(Part::Slice, _) => column.is_of_slices(),
             Whose::Runs => true,
         }
     }
@@ -117,42 +124,22 @@ fn begin_table(alloc: Global) -> Result<Writer<Vec<u8>>, AllocError>
     Ok(writer)
 }
 
-/// Writes the lines of cores, core 0's first.
-fn write_cores(
+/// Writes the lines of cores, or of slices, number 0's first.
+fn write_parts(
     alloc: Global,
     writer: &mut Writer<Vec<u8>>,
-    cores: &[Numbers],
+    part: Part,
+    numbers: &[Numbers],
 ) -> Result<(), AllocError>
     ensures text { OnOk result (IsFresh writer.old
-        → Appends (written writer.old) (written writer.new) (text.lines_from text.core_cells 0 cores.now)) }
+        → Appends (written writer.old) (written writer.new) (text.lines_from part 0 numbers.now)) }
     ensures fresh { OnOk result (IsFresh writer.old → IsFresh writer.new) }
 {
-    for (number, counts) in cores.iter().enumerate() {
+    for (number, counts) in numbers.iter().enumerate() {
         write_row(
             alloc,
             writer,
-            Whose::Core(number),
-            &RunTotals::of_part(counts),
-        )?;
-    }
-    Ok(())
-}
-
-/// Writes the lines of slices, slice 0's first.
-fn write_slices(
-    alloc: Global,
-    writer: &mut Writer<Vec<u8>>,
-    slices: &[Numbers],
-) -> Result<(), AllocError>
-    ensures text { OnOk result (IsFresh writer.old
-        → Appends (written writer.old) (written writer.new) (text.lines_from text.slice_cells 0 slices.now)) }
-    ensures fresh { OnOk result (IsFresh writer.old → IsFresh writer.new) }
-{
-    for (number, counts) in slices.iter().enumerate() {
-        write_row(
-            alloc,
-            writer,
-            Whose::Slice(number),
+            Whose::One(part, number),
             &RunTotals::of_part(counts),
         )?;
     }
@@ -170,14 +157,14 @@ pub fn print_statistics(
     ensures { IfOk result (λ made. made.items ≡ text.statistics_text cores.now slices.now) }
 {
     let mut writer = begin_table(alloc)?;
-    write_cores(alloc, &mut writer, cores)?;
+    write_parts(alloc, &mut writer, Part::Core, cores)?;
     write_row(
         alloc,
         &mut writer,
         Whose::Cores,
         &RunTotals::of_parts(cores),
     )?;
-    write_slices(alloc, &mut writer, slices)?;
+    write_parts(alloc, &mut writer, Part::Slice, slices)?;
     text_of(writer)
 }
 

@@ -3,7 +3,7 @@ use Rattle.std.specs.Prelude.{◌%◌, ◌==◌}
 use Rattle.std.proofs.lemmas.List.{take_all}
 use Rattle.core_unit.specs.declared.entry.CoreEntry.{CoreEntry}
 use Rattle.statistics.specs.Sights.{is_operation, seen_back}
-use Rattle.statistics.specs.declared.sight.Kind.{Kind}
+use Rattle.log_record.specs.declared.act.Act.{Act}
 use Rattle.statistics.specs.declared.sight.Sight.TheVariants.{Operation}
 use Rattle.statistics.specs.inner.Counting.{IsCounted}
 use Rattle.statistics.proofs.Counting.{all_told, carried, few_seen, one_operation, other_entry}
@@ -40,7 +40,7 @@ loop-place-preserved c =
     elim c.if-is_operation.branch [
       | then-is_operation w ↦
           let holds : is_operation e ≡ true = sym c.is_operation.ensures ∙ w.if-is_operation.true in
-          let told = subst (λ (k : Kind). IsCounted w.count.new.counts (seen_back period log (reverse (take i es)) ++ Operation k came ((done + 1) % period == 0) ∷ [])) w.kind_at-kind.ensures (w.count.ensures _ far.counted) in
+          let told = subst (λ (k : Act). IsCounted w.count.new.counts (seen_back period log (reverse (take i es)) ++ Operation k came ((done + 1) % period == 0) ∷ [])) w.act_at-act.ensures (w.count.ensures _ far.counted) in
           carried period log es (i + 1) _ _ _ _ _ _ w.counts-is w.done-is w.came-is
           (one_operation period log es i c.loop-place.counts w.count.new.counts done came e within (sym c.entry_there-entry.ensures) far holds told)
       | else-is_operation w ↦
