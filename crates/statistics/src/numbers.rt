@@ -8,7 +8,7 @@ ghost use Rattle.statistics.specs.declared.sight.Sight.{Sight};
 ghost use Rattle.statistics.specs.inner.Counting.{IsCounted};
 
 use super::column::{COLUMN_COUNT, column_at};
-use super::sight::{Sight, act_at, entry_there, has_come, is_operation};
+use super::sight::{Sight, entry_there, has_come, is_operation, sight_of};
 use core_unit::{CoreUnit, Transcript};
 use log_record::Record;
 use manager_slice::{HistoryEntry, ManagerSlice};
@@ -64,16 +64,9 @@ fn count_entries(transcript: &Transcript, log: &[Record], period: u64) -> [u32; 
     let mut came = false;
     for place in 0..transcript.len() {
         let entry = entry_there(transcript, place);
-        if is_operation(&entry) {
-            let act = act_at(log, done);
-            let due = (done as u64 + 1) % period == 0;
-            count(&mut counts, &Sight::Operation { act, came, due });
-            done += 1;
-            came = false;
-        } else {
-            count(&mut counts, &Sight::Core(entry));
-            came = has_come(&entry, came);
-        }
+        count(&mut counts, &sight_of(&entry, log, period, done, came));
+        done += usize::from(is_operation(&entry));
+        came = has_come(&entry, came);
     }
     counts
 }
@@ -96,9 +89,7 @@ fn count(counts: &mut [u32; COLUMN_COUNT], sight: &Sight)
     ensures { (seen : List Sight) → IsCounted counts.old seen → IsCounted counts.new (seen ++ sight.now ∷ []) }
 {
     for place in 0..COLUMN_COUNT {
-        if column_at(place).counts(sight) {
-            counts[place] += 1;
-        }
+        counts[place] += u32::from(column_at(place).counts(sight));
     }
 }
 

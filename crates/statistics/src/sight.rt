@@ -1,9 +1,11 @@
 //! The sights that the columns count: the entries of a core's transcript, with what the columns need of its past, and those of a
 //! slice's history.
 
-ghost use Rattle.std.specs.Prelude.{◌≡◌, ◌<◌, ◌||◌, get_or, length};
+ghost use Rattle.std.specs.Prelude.{◌≡◌, ◌<◌, ◌≤◌, ◌∷◌, List, count_by, get_or, length};
+ghost use Rattle.manager_slice.specs.Limits.{entry_limit};
+ghost use Rattle.core_unit.specs.declared.entry.CoreEntry.{CoreEntry};
 ghost use Rattle.statistics.specs.Columns.{counts};
-ghost use Rattle.statistics.specs.Sights.{act_at, brings_line, is_operation};
+ghost use Rattle.statistics.specs.Sights.{act_at, brings_line, has_come, is_operation, seen};
 
 use super::column::Column;
 use core_unit::{CoreEntry, Transcript};
@@ -69,8 +71,8 @@ impl Sight {
     }
 }
 
-/// The act of the operation at a place of a log. A log has a record for each operation, by `logs_are_counted`.
-pub(crate) fn act_at(log: &[Record], place: usize) -> Act
+// The act of the operation at a place of a log. A log has a record for each operation, by `logs_are_counted`.
+fn act_at(log: &[Record], place: usize) -> Act
     ensures { result ≡ act_at log.now place }
 {
     match log.get(place) {
@@ -86,24 +88,44 @@ pub(crate) fn is_operation(entry: &CoreEntry) -> bool
     matches!(entry, CoreEntry::Performed)
 }
 
-/// Whether an entry is the reply to a request. The reply to a give-back brings no line.
+// Whether an entry is the reply to a request. The reply to a give-back brings no line.
 fn brings_line(entry: &CoreEntry) -> bool
     ensures { result ≡ brings_line entry.now }
 {
-    match entry {
-        CoreEntry::Got(message, _) => matches!(
-            message,
-            Message::ShReq { .. } | Message::ExReq { .. }
-        ),
-        _ => false,
-    }
+    matches!(
+        entry,
+        CoreEntry::Got(Message::ShReq { .. } | Message::ExReq { .. }, _)
+    )
 }
 
-/// Whether a line has come once this entry is made. `before` says whether one had come before it.
+/// Whether a line has come for the next operation once this entry is made. `before` says whether one had come before it.
 pub(crate) fn has_come(entry: &CoreEntry, before: bool) -> bool
-    ensures { result ≡ (brings_line entry.now || before) }
+    ensures { (es : List CoreEntry) → before ≡ has_come es → result ≡ has_come (entry.now ∷ es) }
 {
-    if brings_line(entry) { true } else { before }
+    !is_operation(entry) && (brings_line(entry) || before)
+}
+
+/// What is seen of an entry of a core after `done` operations. `came` says whether a line has come since the last of them.
+pub(crate) fn sight_of(
+    entry: &CoreEntry,
+    log: &[Record],
+    period: u64,
+    done: usize,
+    came: bool,
+) -> Sight
+    requires period { 1 ≤ period }
+    requires few { done ≤ entry_limit }
+    ensures { (es : List CoreEntry) → done ≡ count_by is_operation es → came ≡ has_come es
+        → result ≡ seen period log.now entry.now es }
+{
+    if !is_operation(entry) {
+        return Sight::Core(*entry);
+    }
+    Sight::Operation {
+        act: act_at(log, done),
+        came,
+        due: (done as u64 + 1) % period == 0,
+    }
 }
 
 /// The entry at a place within the transcript.
