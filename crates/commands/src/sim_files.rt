@@ -69,11 +69,11 @@ fn new_machine(
 ) -> Result<Core, CoreFault>
     ensures { IfOk result (λ machine. machine ≡ opening_parts programs.now.programs config.now) }
 {
-    let mut machine = Core::new(alloc, programs, config)?;
     if keeps {
-        machine.keep_events(alloc);
+        Core::keeping_events(alloc, programs, config)
+    } else {
+        Core::new(alloc, programs, config)
     }
-    Ok(machine)
 }
 
 /// Puts the events of a run under the name that is given for them, if one is, and if what comes before them was left: 29 if that fails,

@@ -1,5 +1,6 @@
 pub mod Leading
 pub mod Judged
+pub mod Kept
 pub mod Nexts
 pub mod RoundRuns
 pub mod Stages

@@ -1,4 +1,5 @@
 pub mod Hands
+pub mod Keeping
 pub mod Picks
 pub mod RoundFaults
 pub mod Rounds

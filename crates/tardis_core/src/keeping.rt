@@ -1,43 +1,53 @@
 //! The events that a machine keeps.
 
-ghost use Rattle.std.specs.Prelude.{◌≡◌};
+ghost use Rattle.std.specs.Prelude.{◌≡◌, ◌∷◌, ◌++◌, [], IfSome, IsSomeAnd, OnOk};
+ghost use Rattle.tardis_core.specs.Keeping.{LeadTo};
 
 use super::machine::Core;
 use core_machine::Event;
-use std::alloc::{AllocError, Global};
+use std::alloc::AllocError;
 
 impl Core {
-    /// From now on the machine keeps each event that it performs.
-    pub fn keep_events(&mut self, alloc: Global)
-        ensures { self.new ≡ self.old }
+    /// The events that it has performed since its start, in order, those without effect among them; none
+    /// if it wasn't asked to keep them, or if memory for one of them was refused.
+    pub fn events(&self) -> Option<&[Event]>
+        ensures { IfSome result (λ events. LeadTo events.now self.now) }
     {
-        self.events = Some(Vec::new(alloc));
-    }
-
-    /// The events that it has performed since it was asked to keep them, those without effect among
-    /// them; none if it wasn't asked, or if memory for one of them was refused.
-    pub fn events(&self) -> Option<&[Event]> {
         match &self.events {
             Some(events) => Some(events.as_slice()),
             None => None,
         }
     }
+}
 
-    // Keeps an event. A refused growth ends the keeping, since it may not refuse the event.
-    pub(crate) fn keep(&mut self, event: &Event)
-        ensures { self.new ≡ self.old }
-    {
-        let Some(mut events) = self.events.take() else {
-            return;
-        };
-        if push_copy(&mut events, event).is_ok() {
-            self.events = Some(events);
-        }
+/// Keeps an event behind those before it, if events are kept.
+#[inline(always)]
+pub(crate) fn keep(kept: &mut Option<Vec<Event>>, event: &Event)
+    ensures { IfSome kept.new (λ events. IsSomeAnd kept.old
+        (λ before. events.items ≡ before.items ++ event.now ∷ [])) }
+{
+    if kept.is_some() {
+        append(kept, event);
+    }
+}
+
+// Appends an event to those that are kept. A refused growth ends the keeping, since it may not refuse the event.
+fn append(kept: &mut Option<Vec<Event>>, event: &Event)
+    ensures { IfSome kept.new (λ events. IsSomeAnd kept.old
+        (λ before. events.items ≡ before.items ++ event.now ∷ [])) }
+{
+    let Some(mut events) = kept.take() else {
+        return;
+    };
+    if push_copy(&mut events, event).is_ok() {
+        *kept = Some(events);
     }
 }
 
 // Appends a copy of an item.
-fn push_copy<T: Copy>(items: &mut Vec<T>, item: &T) -> Result<(), AllocError> {
+fn push_copy<T: Copy>(items: &mut Vec<T>, item: &T) -> Result<(), AllocError>
+    ensures { OnOk result (items.new.items ≡ items.old.items ++ item.now ∷ []) }
+{
     items.reserve(1)?;
     items.push_reserved(*item);
     Ok(())

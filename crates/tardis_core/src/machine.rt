@@ -13,17 +13,15 @@ use manager_slice::ManagerSlice;
 use mem_op::CoreId;
 use std::marker::Model;
 
-/// Core units and manager slices. For each core whose message in hand is served, it keeps the reply. If it
-/// was asked to, it also keeps the events that it performs, but the contracts say nothing about these.
+/// Core units and manager slices.
 #[derive(Drop)]
-pub struct Core {
+pub(crate) struct Machine {
     pub(crate) config: Config,
     pub(crate) seats: Vec<Seat>,
     pub(crate) slices: Vec<ManagerSlice>,
-    pub(crate) events: Option<Vec<Event>>,
 }
 
-impl Model for Core {
+impl Model for Machine {
     ghost use Rattle.std.specs.Coded.{codes};
     ghost use Rattle.tardis_core.specs.contracts.seat.Seat as seat;
     ghost use Rattle.manager_slice.specs.contracts.slice.ManagerSlice as slice;
@@ -38,19 +36,51 @@ impl Model for Core {
     ghost invariant = { λ m. IsMachine (record { config = m.config; seats = m.seats.items; slices = m.slices.items }) };
 }
 
+impl Machine {
+    /// Does nothing: its contract is the type's invariant.
+    pub(crate) fn keeps(&self)
+        ensures { IsMachine self.now }
+    {
+        let _ = &self.config;
+    }
+}
+
+/// Core units and manager slices. For each core whose message in hand is served, it keeps the reply. If it
+/// was asked to, it also keeps the events that it performs: they lead from its start to where it is.
+#[derive(Drop)]
+pub struct Core {
+    pub(crate) machine: Machine,
+    pub(crate) events: Option<Vec<Event>>,
+}
+
+impl Model for Core {
+    ghost use Rattle.std.specs.Prelude.{IfSome};
+    ghost use Rattle.tardis_core.specs.contracts.machine.Machine as whole;
+    ghost use Rattle.core_machine.specs.Parts.{CoreParts};
+    ghost use Rattle.tardis_core.specs.Keeping.{LeadTo};
+
+    ghost Value = { CoreParts };
+
+    ghost coded = { whole.the_row.coded };
+
+    ghost view = { λ core. core.machine };
+
+    ghost invariant = { λ core. IfSome core.events (λ kept. LeadTo kept.items core.machine) };
+}
+
 impl Core {
     /// The configuration.
     pub fn config(&self) -> &Config
         ensures { result.now ≡ self.now.config }
     {
-        &self.config
+        &self.machine.config
     }
 
     /// A core, if it is there.
     pub fn unit(&self, core: CoreId) -> Option<&CoreUnit>
         ensures { option_copied result ≡ option_map (λ s. s.unit) (slice_get self.now.seats core) }
     {
-        let seat = self.seats.get(core.get() as usize)?;
+        let seat = self.machine.seats.get(core.get() as usize)?;
         Some(&seat.unit)
     }
 
@@ -58,7 +88,7 @@ impl Core {
     pub fn slice(&self, number: usize) -> Option<&ManagerSlice>
         ensures { option_copied result ≡ slice_get self.now.slices number }
     {
-        self.slices.get(number)
+        self.machine.slices.get(number)
     }
 
     /// Does nothing: its contract says that some list of events leads to this machine from the
@@ -66,21 +96,14 @@ impl Core {
     pub fn replays(&self)
         ensures { IsReached self.now }
     {
-        let _ = &self.config;
-    }
-
-    /// Does nothing: its contract is the type's invariant.
-    pub(crate) fn keeps(&self)
-        ensures { IsMachine self.now }
-    {
-        let _ = &self.config;
+        self.machine.keeps();
     }
 
     /// The reply that the machine keeps for a core until the core takes it, if there is one.
     pub fn kept(&self, core: CoreId) -> Option<&Reply>
         ensures { option_copied result ≡ option_and_then (λ s. s.kept) (slice_get self.now.seats core) }
     {
-        let seat = self.seats.get(core.get() as usize)?;
+        let seat = self.machine.seats.get(core.get() as usize)?;
         seat.kept.as_ref()
     }
 }

@@ -6,7 +6,7 @@ ghost use Rattle.core_machine.specs.Opening.{new_seat, new_units, opening_parts}
 ghost use Rattle.core_machine.specs.Parts.{world};
 ghost use Rattle.core_machine.specs.Steps.{is_memory};
 
-use super::machine::Core;
+use super::machine::{Core, Machine};
 use super::seat::Seat;
 use core_machine::CoreFault;
 use core_program::ProgramSet;
@@ -24,14 +24,45 @@ impl Core {
         ensures opening { IfOk result (λ m. world m ≡ opening programs.now.programs config.now.slices) }
         ensures refused { IfErr result (λ fault. is_memory fault ≡ true) }
     {
+        let machine = Machine::new(alloc, programs, config)?;
+        Ok(Core {
+            machine,
+            events: None,
+        })
+    }
+
+    /// The same machine, which keeps the events that it performs.
+    pub fn keeping_events(
+        alloc: Global,
+        programs: &ProgramSet,
+        config: &Config,
+    ) -> Result<Core, CoreFault>
+        ensures parts { IfOk result (λ m. m ≡ opening_parts programs.now.programs config.now) }
+        ensures refused { IfErr result (λ fault. is_memory fault ≡ true) }
+    {
+        let machine = Machine::new(alloc, programs, config)?;
+        Ok(Core {
+            machine,
+            events: Some(Vec::new(alloc)),
+        })
+    }
+}
+
+impl Machine {
+    // The machine with each core at the start of its program and all slices empty. Only 10
+    // OutOfMemory may come.
+    fn new(alloc: Global, programs: &ProgramSet, config: &Config) -> Result<Machine, CoreFault>
+        ensures parts { IfOk result (λ m. m ≡ opening_parts programs.now.programs config.now) }
+        ensures opening { IfOk result (λ m. world m ≡ opening programs.now.programs config.now.slices) }
+        ensures refused { IfErr result (λ fault. is_memory fault ≡ true) }
+    {
         let units = opening_units(alloc, programs, config)?;
         let seats = seats_of(alloc, units)?;
         let slices = new_slices(alloc, config)?;
-        Ok(Core {
+        Ok(Machine {
             config: *config,
             seats,
             slices,
-            events: None,
         })
     }
 }

@@ -8,7 +8,8 @@ ghost use Rattle.core_machine.specs.Steps.{OutcomeLeads, MachineLeads, alone, sp
 ghost use Rattle.machine_laws.specs.Laws.{GetYes, GetYesBy, HaveEnded, logs_of};
 ghost use Rattle.machine_laws.specs.Refusals.{is_protocol_fault};
 
-use super::machine::Core;
+use super::keeping::keep;
+use super::machine::{Core, Machine};
 use core_machine::{CoreFault, Event};
 use core_unit::Outcome;
 use machine_laws::refusals::never_refused;
@@ -50,7 +51,7 @@ impl Core {
         runs_get_yes();
         ended_runs_get_yes();
         never_refused();
-        self.keeps();
+        self.machine.keeps();
         self.apply(event)
     }
 
@@ -60,14 +61,15 @@ impl Core {
         ensures leads { MachineLeads event self.old result self.new }
         ensures outcome { OutcomeLeads (step_outcome self.old event) result self.old self.new }
     {
-        let result = self.make(event);
-        if self.events.is_some() && result.is_ok() {
-            self.keep(&event);
-        }
-        result
+        let Core { machine, events } = self;
+        let outcome = machine.make(event)?;
+        keep(events, &event);
+        Ok(outcome)
     }
+}
 
-    // Makes an event.
+impl Machine {
+    /// Makes an event.
     #[inline(always)]
     fn make(&mut self, event: Event) -> Result<Outcome, CoreFault>
         ensures leads { MachineLeads event self.old result self.new }
@@ -92,7 +94,7 @@ impl Core {
         ensures outcome { OutcomeLeads (alone self.old core event.now) result self.old self.new }
         ensures leads { MachineLeads event.now self.old result self.new }
     {
-        let Core { seats, .. } = self;
+        let Machine { seats, .. } = self;
         let Some(seat) = seats.get_mut(core.get() as usize) else {
             return Ok(Outcome::NoEffect);
         };
@@ -105,7 +107,7 @@ impl Core {
         ensures outcome { OutcomeLeads (step_outcome self.old (Event.Serve core)) result self.old self.new }
         ensures leads { MachineLeads (Event.Serve core) self.old result self.new }
     {
-        let Core {
+        let Machine {
             config,
             seats,
             slices,
@@ -128,7 +130,7 @@ impl Core {
         ensures outcome { OutcomeLeads (step_outcome self.old (Event.Spill addr)) result self.old self.new }
         ensures leads { MachineLeads (Event.Spill addr) self.old result self.new }
     {
-        let Core { config, slices, .. } = self;
+        let Machine { config, slices, .. } = self;
         let slice = &mut slices[config.slice_of(addr)];
         let went = slice.evict(addr)?;
         Ok(spill_told(went))

@@ -5,7 +5,7 @@ use Rattle.core_machine.specs.declared.event.Event.TheVariants as event
 use Rattle.core_machine.proofs.Leading.{reached_on}
 use Rattle.core_machine.proofs.Placed.{stands}
 use Rattle.core_machine.proofs.Serving.{kept_spilled, spilled_ok, spilled_err, leads_spill, leads_refused_spill}
-use Rattle.tardis_core.proofs.machine.Core.spill.Goals as goal
+use Rattle.tardis_core.proofs.machine.Machine.spill.Goals as goal
 
 pub returns-in_err-went-clause-outcome : goal.returns-in_err-went-clause-outcome
 returns-in_err-went-clause-outcome c =

@@ -10,7 +10,7 @@ use Rattle.core_machine.proofs.Leading.{reached_on, room_kept}
 use Rattle.core_machine.proofs.Placed.{stands, stands_none, map-set_same}
 use Rattle.core_machine.proofs.Serving.{idle_outcome, leads_idle, served_ok, served_err, leads_refused_serve, leads_served, kept_served}
 use Rattle.core_machine.specs.declared.event.Event.TheVariants as event
-use Rattle.tardis_core.proofs.machine.Core.serve.Goals as goal
+use Rattle.tardis_core.proofs.machine.Machine.serve.Goals as goal
 
 pub returns-in_default-clause-leads : goal.returns-in_default-clause-leads
 returns-in_default-clause-leads c =

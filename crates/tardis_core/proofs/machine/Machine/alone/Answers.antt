@@ -4,7 +4,7 @@ use Rattle.core_machine.proofs.Alone.{leads_nowhere, own_event, alone_ok, alone_
 use Rattle.core_machine.proofs.Leading.{seat_kept}
 use Rattle.core_machine.proofs.Placed.{stands, stands_none}
 use Rattle.machine_laws.proofs.Refusing.{seat_room}
-use Rattle.tardis_core.proofs.machine.Core.alone.Goals as goal
+use Rattle.tardis_core.proofs.machine.Machine.alone.Goals as goal
 
 pub returns-in_default-clause-leads : goal.returns-in_default-clause-leads
 returns-in_default-clause-leads c =
