@@ -10,6 +10,7 @@ ghost use Rattle.audit.specs.Pairs.{Agrees};
 ghost use Rattle.audit.specs.inner.Fronts.{AreFronts, Stuck};
 
 use super::fault::AuditFault;
+use super::fronts::Places;
 use super::lists::{history_at, served_entry};
 use super::merging::{advance, core_left, slice_left, unmerged_at};
 use super::pairs::pairs_fault;
@@ -29,23 +30,22 @@ fn server_in_range(history: &[HistoryEntry], at: usize)
 fn slices_fault(
     units: &[CoreUnit],
     slices: &[ManagerSlice],
-    cores: &[usize],
-    fronts: &[usize],
+    places: &Places,
 ) -> Result<(), AuditFault>
     requires units { length units.now ≤ 64 }
     requires some { 1 ≤ length slices.now }
     requires most { length slices.now ≤ 16 }
-    requires fronts { AreFronts (transcripts units.now) (histories slices.now) cores.now fronts.now }
-    requires stuck { Stuck (transcripts units.now) (histories slices.now) cores.now fronts.now }
-    requires used { (c : ℕ) → c < 64 → length (transcript_of (transcripts units.now) c) ≤ slice_index cores.now c }
+    requires fronts { AreFronts (transcripts units.now) (histories slices.now) places.now.cores places.now.slices }
+    requires stuck { Stuck (transcripts units.now) (histories slices.now) places.now.cores places.now.slices }
+    requires used { (c : ℕ) → c < 64 → length (transcript_of (transcripts units.now) c) ≤ slice_index places.now.cores c }
     ensures { MatchResult result
         (λ _. Agrees (transcripts units.now) (histories slices.now) × HasMerge (transcripts units.now) (histories slices.now))
         (λ fault. IsAuditFault (transcripts units.now) (histories slices.now) fault.core fault.slice fault.place) }
 {
-    let Some(slice) = slice_left(slices, fronts) else {
+    let Some(slice) = slice_left(slices, &places.slices) else {
         return Ok(());
     };
-    server_in_range(history_at(slices, slice), fronts[slice]);
+    server_in_range(history_at(slices, slice), places.slices[slice]);
     match pairs_fault(units, slices) {
         Some(fault) => Err(fault),
         None => unreachable!(),
@@ -66,14 +66,16 @@ pub fn audit(units: &[CoreUnit], slices: &[ManagerSlice]) -> Result<(), AuditFau
         (λ _. Agrees (transcripts units.now) (histories slices.now) × HasMerge (transcripts units.now) (histories slices.now))
         (λ fault. IsAuditFault (transcripts units.now) (histories slices.now) fault.core fault.slice fault.place) }
 {
-    let mut cores = [0usize; 64];
-    let mut fronts = [0usize; 16];
-    advance(units, slices, &mut cores, &mut fronts);
-    let Some(core) = core_left(units, &cores) else {
-        return slices_fault(units, slices, &cores, &fronts);
+    let mut places = Places {
+        cores: [0; 64],
+        slices: [0; 16],
+    };
+    advance(units, slices, &mut places);
+    let Some(core) = core_left(units, &places.cores) else {
+        return slices_fault(units, slices, &places);
     };
     match pairs_fault(units, slices) {
         Some(fault) => Err(fault),
-        None => Err(unmerged_at(units, slices, &cores, &fronts, core)),
+        None => Err(unmerged_at(units, slices, &places, core)),
     }
 }

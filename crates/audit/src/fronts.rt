@@ -12,6 +12,13 @@ use core_unit::{CoreEntry, CoreUnit};
 use line_stamps::{Message, Reply};
 use manager_slice::{HistoryEntry, ManagerSlice};
 
+/// How many entries of each core and of each slice an order has so far.
+#[derive(Clone, Copy)]
+pub(crate) struct Places {
+    pub(crate) cores: [usize; 64],
+    pub(crate) slices: [usize; 16],
+}
+
 // The next step of a slice.
 #[derive(Clone, Copy)]
 enum SliceStep {
@@ -88,24 +95,22 @@ fn waited_for(units: &[CoreUnit], core: usize, at: usize, count: usize) -> Optio
 fn slice_step(
     units: &[CoreUnit],
     slices: &[ManagerSlice],
-    cores: &[usize],
-    fronts: &[usize],
+    places: &Places,
     slice: usize,
 ) -> Option<SliceStep>
     requires some { 0 < length slices.now }
-    requires cores { length cores.now ≡ 64 }
-    requires slice { slice < length fronts.now }
+    requires slice { slice < 16 }
     ensures { MatchOption result
-        (SliceStuck (transcripts units.now) (histories slices.now) cores.now fronts.now slice)
-        (λ step. Enabled (transcripts units.now) (histories slices.now) cores.now fronts.now slice step) }
+        (SliceStuck (transcripts units.now) (histories slices.now) places.now.cores places.now.slices slice)
+        (λ step. Enabled (transcripts units.now) (histories slices.now) places.now.cores places.now.slices slice step) }
 {
     let history = history_at(slices, slice);
-    match served_entry(history, fronts[slice]) {
+    match served_entry(history, places.slices[slice]) {
         None => None,
         Some(HistoryEntry::Evicted(_)) => Some(SliceStep::Evicts),
         Some(HistoryEntry::Served(by, message, reply)) => {
             let core = by.get() as usize;
-            if !is_got(units, core, cores[core], message, reply) {
+            if !is_got(units, core, places.cores[core], message, reply) {
                 return None;
             }
             if slice_of(slices.len(), message.addr()) != slice {
@@ -117,22 +122,17 @@ fn slice_step(
 }
 
 /// Moves a core on over the entries that it makes alone.
-pub(crate) fn core_on(
-    units: &[CoreUnit],
-    slices: &[ManagerSlice],
-    cores: &mut [usize],
-    fronts: &[usize],
-    core: usize,
-)
+pub(crate) fn core_on(units: &[CoreUnit], slices: &[ManagerSlice], places: &mut Places, core: usize)
     requires core { core < 64 }
-    requires fronts { AreFronts (transcripts units.now) (histories slices.now) cores.old fronts.now }
+    requires fronts { AreFronts (transcripts units.now) (histories slices.now) places.old.cores places.old.slices }
     requires small { Small (transcripts units.now) (histories slices.now) }
-    ensures fronts { AreFronts (transcripts units.now) (histories slices.now) cores.new fronts.now }
-    ensures on { IsOneOn core cores.old cores.new }
-    ensures alone { goes_alone (transcript_of (transcripts units.now) core) (slice_index cores.new core) ≡ false }
+    ensures fronts { AreFronts (transcripts units.now) (histories slices.now) places.new.cores places.new.slices }
+    ensures on { IsOneOn core places.old.cores places.new.cores }
+    ensures still { places.new.slices ≡ places.old.slices }
+    ensures alone { goes_alone (transcript_of (transcripts units.now) core) (slice_index places.new.cores core) ≡ false }
 {
-    while is_alone(units, core, cores[core]) {
-        bump(cores, core);
+    while is_alone(units, core, places.cores[core]) {
+        bump(&mut places.cores, core);
     }
 }
 
@@ -141,8 +141,7 @@ pub(crate) fn core_on(
 fn pass(
     units: &[CoreUnit],
     slices: &[ManagerSlice],
-    cores: &mut [usize],
-    fronts: &mut [usize],
+    places: &mut Places,
     due: &mut [usize],
     slice: usize,
     core: usize,
@@ -151,15 +150,16 @@ fn pass(
     requires most { length slices.now ≤ 16 }
     requires due { IsDue due.old slice }
     requires small { Small (transcripts units.now) (histories slices.now) }
-    requires merging { Merging (transcripts units.now) (histories slices.now) cores.old fronts.old due.old }
-    requires enabled { Enabled (transcripts units.now) (histories slices.now) cores.old fronts.old slice (SliceStep.Passes core) }
-    ensures merging { Merging (transcripts units.now) (histories slices.now) cores.new fronts.new due.new }
-    ensures less { sum due.new + 2 * (sum cores.old + sum fronts.old) < sum due.old + 2 * (sum cores.new + sum fronts.new) }
+    requires merging { Merging (transcripts units.now) (histories slices.now) places.old.cores places.old.slices due.old }
+    requires enabled { Enabled (transcripts units.now) (histories slices.now) places.old.cores places.old.slices slice (SliceStep.Passes core) }
+    ensures merging { Merging (transcripts units.now) (histories slices.now) places.new.cores places.new.slices due.new }
+    ensures less { sum due.new + 2 * (sum places.old.cores + sum places.old.slices)
+        < sum due.old + 2 * (sum places.new.cores + sum places.new.slices) }
 {
-    bump(cores, core);
-    bump(fronts, slice);
-    core_on(units, slices, cores, fronts, core);
-    let Some(waited) = waited_for(units, core, cores[core], slices.len()) else {
+    bump(&mut places.cores, core);
+    bump(&mut places.slices, slice);
+    core_on(units, slices, places, core);
+    let Some(waited) = waited_for(units, core, places.cores[core], slices.len()) else {
         return;
     };
     set_due(due, waited, 1);
@@ -170,8 +170,7 @@ fn pass(
 pub(crate) fn move_slice(
     units: &[CoreUnit],
     slices: &[ManagerSlice],
-    cores: &mut [usize],
-    fronts: &mut [usize],
+    places: &mut Places,
     due: &mut [usize],
     slice: usize,
 )
@@ -179,13 +178,14 @@ pub(crate) fn move_slice(
     requires most { length slices.now ≤ 16 }
     requires due { IsDue due.old slice }
     requires small { Small (transcripts units.now) (histories slices.now) }
-    requires merging { Merging (transcripts units.now) (histories slices.now) cores.old fronts.old due.old }
-    ensures merging { Merging (transcripts units.now) (histories slices.now) cores.new fronts.new due.new }
-    ensures less { sum due.new + 2 * (sum cores.old + sum fronts.old) < sum due.old + 2 * (sum cores.new + sum fronts.new) }
+    requires merging { Merging (transcripts units.now) (histories slices.now) places.old.cores places.old.slices due.old }
+    ensures merging { Merging (transcripts units.now) (histories slices.now) places.new.cores places.new.slices due.new }
+    ensures less { sum due.new + 2 * (sum places.old.cores + sum places.old.slices)
+        < sum due.old + 2 * (sum places.new.cores + sum places.new.slices) }
 {
-    match slice_step(units, slices, cores, fronts, slice) {
+    match slice_step(units, slices, places, slice) {
         None => set_due(due, slice, 0),
-        Some(SliceStep::Evicts) => bump(fronts, slice),
-        Some(SliceStep::Passes(core)) => pass(units, slices, cores, fronts, due, slice, core),
+        Some(SliceStep::Evicts) => bump(&mut places.slices, slice),
+        Some(SliceStep::Passes(core)) => pass(units, slices, places, due, slice, core),
     }
 }

@@ -7,7 +7,7 @@ ghost use Rattle.audit.specs.Pairs.{gots};
 ghost use Rattle.audit.specs.inner.Fronts.{AreFronts, IsDue, Merging, Reached, Small, Stuck, goes_alone};
 
 use super::fault::AuditFault;
-use super::fronts::{core_on, move_slice};
+use super::fronts::{Places, core_on, move_slice};
 use super::lists::{
     MAX_CORES, MAX_SLICES, entry_at, entry_count, entry_there, history_at, slice_of,
 };
@@ -45,38 +45,33 @@ fn next_due(due: &[usize]) -> Option<usize>
 }
 
 // Moves each core on over the entries that it makes alone.
-fn cores_on(units: &[CoreUnit], slices: &[ManagerSlice], cores: &mut [usize], fronts: &[usize])
+fn cores_on(units: &[CoreUnit], slices: &[ManagerSlice], places: &mut Places)
     requires units { length units.now ≤ 64 }
-    requires fronts { AreFronts (transcripts units.now) (histories slices.now) cores.old fronts.now }
+    requires fronts { AreFronts (transcripts units.now) (histories slices.now) places.old.cores places.old.slices }
     requires small { Small (transcripts units.now) (histories slices.now) }
-    ensures fronts { AreFronts (transcripts units.now) (histories slices.now) cores.new fronts.now }
-    ensures alone { (c : ℕ) → goes_alone (transcript_of (transcripts units.now) c) (slice_index cores.new c) ≡ false }
+    ensures fronts { AreFronts (transcripts units.now) (histories slices.now) places.new.cores places.new.slices }
+    ensures alone { (c : ℕ) → goes_alone (transcript_of (transcripts units.now) c) (slice_index places.new.cores c) ≡ false }
 {
     for core in 0..MAX_CORES {
-        core_on(units, slices, cores, fronts, core);
+        core_on(units, slices, places, core);
     }
 }
 
 /// Moves all cores and slices on as far as one order goes. It looks at each entry a bounded number of times: at
 /// an entry that a core makes alone once, and at a slice's once for each core that comes to wait for it.
-pub(crate) fn advance(
-    units: &[CoreUnit],
-    slices: &[ManagerSlice],
-    cores: &mut [usize],
-    fronts: &mut [usize],
-)
+pub(crate) fn advance(units: &[CoreUnit], slices: &[ManagerSlice], places: &mut Places)
     requires units { length units.now ≤ 64 }
     requires some { 0 < length slices.now }
     requires most { length slices.now ≤ 16 }
-    requires fronts { AreFronts (transcripts units.now) (histories slices.now) cores.old fronts.old }
-    ensures fronts { AreFronts (transcripts units.now) (histories slices.now) cores.new fronts.new }
-    ensures stuck { Stuck (transcripts units.now) (histories slices.now) cores.new fronts.new }
+    requires fronts { AreFronts (transcripts units.now) (histories slices.now) places.old.cores places.old.slices }
+    ensures fronts { AreFronts (transcripts units.now) (histories slices.now) places.new.cores places.new.slices }
+    ensures stuck { Stuck (transcripts units.now) (histories slices.now) places.new.cores places.new.slices }
 {
     lengths(units, slices);
-    cores_on(units, slices, cores, fronts);
+    cores_on(units, slices, places);
     let mut due = [1usize; 16];
     while let Some(slice) = next_due(&due) {
-        move_slice(units, slices, cores, fronts, &mut due, slice);
+        move_slice(units, slices, places, &mut due, slice);
     }
 }
 
@@ -132,19 +127,18 @@ fn gots_before(units: &[CoreUnit], core: usize, count: usize, slice: usize, at: 
 pub(crate) fn unmerged_at(
     units: &[CoreUnit],
     slices: &[ManagerSlice],
-    cores: &[usize],
-    fronts: &[usize],
+    places: &Places,
     core: usize,
 ) -> AuditFault
     requires some { 0 < length slices.now }
-    requires core { core < length cores.now }
-    requires left { slice_index cores.now core < length (transcript_of (transcripts units.now) core) }
-    requires earlier { (d : ℕ) → d < core → length (transcript_of (transcripts units.now) d) ≤ slice_index cores.now d }
-    requires reached { Reached (transcripts units.now) (histories slices.now) cores.now fronts.now }
-    requires stuck { Stuck (transcripts units.now) (histories slices.now) cores.now fronts.now }
+    requires core { core < 64 }
+    requires left { slice_index places.now.cores core < length (transcript_of (transcripts units.now) core) }
+    requires earlier { (d : ℕ) → d < core → length (transcript_of (transcripts units.now) d) ≤ slice_index places.now.cores d }
+    requires reached { Reached (transcripts units.now) (histories slices.now) places.now.cores places.now.slices }
+    requires stuck { Stuck (transcripts units.now) (histories slices.now) places.now.cores places.now.slices }
     ensures { IsFirstUnmerged (transcripts units.now) (histories slices.now) result.core result.slice result.place }
 {
-    let at = cores[core];
+    let at = places.cores[core];
     let Some(CoreEntry::Got(message, _)) = entry_at(units, core, at) else {
         unreachable!()
     };

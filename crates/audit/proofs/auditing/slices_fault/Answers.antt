@@ -11,8 +11,8 @@ pub returns-in_default : goal.returns-in_default
 returns-in_default c =
     let ts = transcripts c.args.units.now in
     let hs = histories c.args.slices.now in
-    let p = c.args.cores.now in
-    let q = c.args.fronts.now in
+    let p = c.args.places.now.cores in
+    let q = c.args.places.now.slices in
     let merge = all_merged ts hs p q c.requires.fronts.reached
     (past_all ts 64 (λ k. slice_index p k) (rw length-map c.requires.units) c.requires.used)
     (past_all hs 16 (λ k. slice_index q k) (rw length-map c.requires.most) c.in_default.ensures) in
@@ -22,8 +22,8 @@ pub unreachable-requires : goal.unreachable-requires
 unreachable-requires c =
     let ts = transcripts c.args.units.now in
     let hs = histories c.args.slices.now in
-    let p = c.args.cores.now in
-    let q = c.args.fronts.now in
+    let p = c.args.places.now.cores in
+    let q = c.args.places.now.slices in
     let s = c.in-Some.slice in
     let e = entry_there _ (slice_index q s) c.in-Some.ensures.1 in
     no_slice_left ts hs p q c.requires.fronts.reached c.requires.stuck c.requires.used c.in-None.ensures s

@@ -9,6 +9,6 @@ pub returns-in-Some-Evicts-clause-merging : goal.returns-in-Some-Evicts-clause-m
 returns-in-Some-Evicts-clause-merging c =
     let ts = transcripts c.args.units.now in
     let hs = histories c.args.slices.now in
-    let E : SliceStep → Type 0 = λ step. Enabled ts hs c.args.cores.now c.args.fronts.now c.args.slice step in
+    let E : SliceStep → Type 0 = λ step. Enabled ts hs c.args.places.now.cores c.args.places.now.slices c.args.slice step in
     let en = subst E c.in-Some-Evicts.field-0-is c.in-Some-Evicts.ensures in
-    rw c.bump.ensures (evicted ts hs c.args.cores.now c.args.fronts.now c.args.due.now c.args.slice en.0 c.requires.merging c.requires.due en.1)
+    rw c.bump.ensures (evicted ts hs c.args.places.now.cores c.args.places.now.slices c.args.due.now c.args.slice en.0 c.requires.merging c.requires.due en.1)

@@ -5,6 +5,6 @@ use Rattle.audit.proofs.merging.cores_on.Given as goal
 
 abbrev pub invariant-loop-core : goal.invariant-loop-core
 invariant-loop-core l = record {
-  fronts : AreFronts (transcripts l.units) (histories l.slices) l.cores l.fronts;
-  alone : (c : ℕ) → c < l.core → goes_alone (transcript_of (transcripts l.units) c) (slice_index l.cores c) ≡ false;
+  fronts : AreFronts (transcripts l.units) (histories l.slices) l.places.cores l.places.slices;
+  alone : (c : ℕ) → c < l.core → goes_alone (transcript_of (transcripts l.units) c) (slice_index l.places.cores c) ≡ false;
 }

@@ -15,7 +15,7 @@ returns c =
     let T = transcript_of ts c.args.core in
     let m = c.in-Some-Got.message in
     let r = c.in-Some-Got.field-0-1 in
-    let k = slice_index c.args.cores.now c.args.core in
+    let k = slice_index c.args.places.now.cores c.args.core in
     let got : slice_get T k ≡ Some (Got m r) = sym c.entry_at.ensures ∙ c.in-Some-Got.is ∙ ap (λ x. Some x) c.in-Some-Got.field-0-is in
     let n : length c.args.slices.now ≡ length hs = sym (length-map c.args.slices.now (λ s. s.history)) in
     let slice : c.slice_of-slice.result ≡ slice_of (length hs) (addr_of m) =
@@ -23,5 +23,5 @@ returns c =
     let count = c.gots_before-place.ensures ∙ (ap (λ x. length (gots x c.slice_of-slice.result (take k T))) n
     ∙ ap (λ x. length (gots (length hs) x (take k T))) slice) in
     rw slice
-    (first_unmerged ts hs c.args.cores.now c.args.fronts.now c.args.core m r c.gots_before-place.result c.requires.reached c.requires.stuck c.requires.earlier
+    (first_unmerged ts hs c.args.places.now.cores c.args.places.now.slices c.args.core m r c.gots_before-place.result c.requires.reached c.requires.stuck c.requires.earlier
     got (sym count))
