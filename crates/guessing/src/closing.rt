@@ -63,7 +63,7 @@ impl<W: SearchWatch> Closing<'_, W> {
         let closed = self.set(&addresses, most, budget)?;
         budget.allow(u64::MAX);
         match closed {
-            Some(closed) => Ok(Some(self.smaller(closed, budget)?)),
+            Some(closed) => Ok(Some(self.smaller(closed, &addresses, budget)?)),
             None => Ok(None),
         }
     }
@@ -99,19 +99,24 @@ impl<W: SearchWatch> Closing<'_, W> {
         }))
     }
 
-    /// A closed set after leaving out, one by one, each address without which it stays closed and has no more states.
-    fn smaller(&self, closed: Closed, budget: &mut Budget) -> Tried<Closed> {
+    /// A closed set after leaving out, one by one, each of these addresses without which it stays closed and has no more states.
+    fn smaller(&self, closed: Closed, addresses: &[u32], budget: &mut Budget) -> Tried<Closed> {
         let mut best = closed;
-        for address in best.addresses.to_vec(self.alloc)? {
-            let mut others = best.addresses.to_vec(self.alloc)?;
-            others.retain(|other| *other != address);
+        for address in addresses {
             if budget.left() > 0
-                && let Some(fewer) = self.set(&others, best.states.len(), budget)?
+                && let Some(fewer) = self.without(&best, *address, budget)?
             {
                 best = fewer;
             }
         }
         Ok(best)
+    }
+
+    /// A closed set without an address of another one, and with no more states, if it finds one.
+    fn without(&self, closed: &Closed, address: u32, budget: &mut Budget) -> Tried<Option<Closed>> {
+        let mut others = closed.addresses.to_vec(self.alloc)?;
+        others.retain(|other| *other != address);
+        self.set(&others, closed.states.len(), budget)
     }
 }
 

@@ -102,27 +102,32 @@ impl Shrinking<'_> {
     /// isn't longer.
     fn attempt(&mut self, kept: &[Place]) -> Tried<()> {
         let places = self.with_candidates(kept)?;
+        if let Some(lines) = self.refute(&places, kept)?
+            && lines.len() <= self.best.len()
+        {
+            self.named = named(self.alloc, &lines, &places)?;
+            self.named.retain(|place| kept.binary_search(place).is_ok());
+            (self.best, self.places) = (lines, places);
+        }
+        Ok(())
+    }
+
+    /// A proof that the operations at these places, of which the candidates aren't kept, have no order, if it finds one.
+    fn refute(&mut self, places: &[Place], kept: &[Place]) -> Tried<Option<Vec<Line>>> {
         let steps = STEPS.saturating_add(STEPS_EACH.wrapping_mul(places.len() as u64));
         self.budget.use_up(places.len() as u64);
         if places.len() > LIMIT || self.budget.left() < steps {
-            return Ok(());
+            return Ok(None);
         }
-        let trace = self.small_trace(&places, kept)?;
+        let trace = self.small_trace(places, kept)?;
         let (operations, classes) = number(self.alloc, &trace)?;
-        let budget = Budget::new(steps);
-        let mut known = Knowledge::new(self.alloc, &operations, &classes, budget)?;
+        let mut known = Knowledge::new(self.alloc, &operations, &classes, Budget::new(steps))?;
         let found = known.refute(&Unwatched);
-        self.budget
-            .use_up(steps.saturating_sub(known.budget.left()));
+        let left = known.budget.left();
+        self.budget.use_up(steps.saturating_sub(left));
         match found {
-            Ok(Some(lines)) if lines.len() <= self.best.len() => {
-                self.named = named(self.alloc, &lines, &places)?;
-                self.named.retain(|place| kept.binary_search(place).is_ok());
-                (self.best, self.places) = (lines, places);
-                Ok(())
-            }
             Err(Stop::Refused) => Err(Stop::Refused),
-            _ => Ok(()),
+            found => Ok(found.unwrap_or(None)),
         }
     }
 
