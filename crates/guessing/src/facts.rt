@@ -64,13 +64,14 @@ impl Facts {
 
     /// What is before what, as the facts say, sorted.
     pub(crate) fn precedences(&self, alloc: Global) -> Tried<Vec<Precedence>> {
-        let facts = self.all.iter().zip(0..=u32::MAX);
-        let precedences = facts.map(|(fact, number)| Precedence {
-            later: fact.later,
-            fact: number,
-            earlier: fact.earlier,
-        });
-        let mut precedences: Vec<Precedence> = precedences.collect(alloc)?;
+        let mut precedences = Vec::with_capacity(alloc, self.all.len())?;
+        for (fact, number) in self.all.iter().zip(0..=u32::MAX) {
+            precedences.push(Precedence {
+                later: fact.later,
+                fact: number,
+                earlier: fact.earlier,
+            })?;
+        }
         precedences.sort_unstable();
         Ok(precedences)
     }

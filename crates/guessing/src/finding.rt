@@ -209,7 +209,10 @@ impl<'a, W: SearchWatch> Finding<'a, '_, W> {
         if !self.groups.is_empty() {
             return Err(Stop::GivenUp);
         }
-        let order = self.order.iter().map(|place| id(self.operations, *place));
-        Ok(Answer::Order(order.try_collect(self.alloc)?))
+        let mut order = Vec::with_capacity(self.alloc, self.order.len())?;
+        for place in &self.order {
+            order.push(id(self.operations, *place)?)?;
+        }
+        Ok(Answer::Order(order))
     }
 }

@@ -144,15 +144,15 @@ impl Shrinking<'_> {
         Ok(places)
     }
 
-    /// The trace of the operations at these places. A swap that isn't kept becomes a store of its word.
+    /// The trace of the operations at these places, of which START is the first. A swap that isn't kept becomes a store of its word.
     fn small_trace(&self, places: &[Place], kept: &[Place]) -> Tried<Vec<Vec<Access>>> {
         let none = self.cores.iter().map(|_| Vec::new(self.alloc));
         let mut trace: Vec<Vec<Access>> = none.collect(self.alloc)?;
-        for place in places.iter().copied().filter(|place| *place != START) {
-            let (core, index) = self.operations.position(place);
+        for place in places.iter().skip(1) {
+            let (core, index) = self.operations.position(*place);
             let own = self.cores.get(core as usize).ok_or(Stop::GivenUp)?;
             let mut access = *own.get(index as usize).ok_or(Stop::GivenUp)?;
-            if kept.binary_search(&place).is_err() {
+            if kept.binary_search(place).is_err() {
                 access = Access::store(access.addr(), access.word_left());
             }
             let small = trace.get_mut(core as usize).ok_or(Stop::GivenUp)?;
