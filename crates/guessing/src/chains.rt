@@ -94,9 +94,17 @@ impl Way {
 
     /// The facts that lead to the last hop, in their order.
     fn chain(&self, alloc: Global) -> Tried<Vec<u32>> {
-        let hops = successors(self.hops.last(), |hop| self.hops.get(hop.from as usize));
-        let facts = hops.take(self.hops.len()).map(|hop| hop.fact);
-        let mut chain: Vec<u32> = facts.filter(|fact| *fact != NONE).collect(alloc)?;
+        let mut chain = Vec::new(alloc);
+        let mut next = self.hops.last();
+        for _ in 0..self.hops.len() {
+            let Some(hop) = next else {
+                break;
+            };
+            if hop.fact != NONE {
+                chain.push(hop.fact)?;
+            }
+            next = self.hops.get(hop.from as usize);
+        }
         chain.reverse();
         Ok(chain)
     }

@@ -14,17 +14,17 @@ const CASE_FROM_READ: u32 = u32::MAX - 1;
 /// read.
 type Hiding = (Derived, Vec<u32>);
 
-/// The cases of a read with the steps that close them.
+/// The cases of a read, whose steps come to stand before a proof. They are closed from the last one on.
 #[derive(Drop)]
-struct Cases {
+struct Cases<'a> {
     read: Place,
     /// The range of its candidates that isn't excluded.
     kept: Option<(Place, Place)>,
     /// The number of the fact that each case begins with. Facts of this number and above aren't used.
     fact: u32,
+    /// The ranges of the cases, the last one first.
     ranges: Vec<(Place, Place)>,
-    /// The steps, first one first, and the facts that they need.
-    steps: Proof,
+    proof: &'a mut Proof,
 }
 
 impl Knowledge<'_> {
@@ -116,19 +116,19 @@ impl Knowledge<'_> {
             kept,
             fact,
             ranges: Vec::new(self.alloc),
-            steps: Proof::new(self.alloc),
+            proof,
         };
-        for core in self.operations.cores() {
+        cases.ranges.extend(kept)?;
+        for core in self.operations.cores().rev() {
             self.close_core(&mut cases, core)?;
         }
-        cases.ranges.extend(kept)?;
-        cases.steps.reversed.reverse();
-        proof.prepend_proof(&mut cases.steps)?;
-        Ok(proof.reversed.push(Line::Read(read, cases.ranges, fact))?)
+        cases.ranges.reverse();
+        let read = Line::Read(read, cases.ranges, fact);
+        Ok(cases.proof.reversed.push(read)?)
     }
 
-    /// Closes the cases of one core's candidates: one range for those after the read, and one for each run of those hidden from it, before the kept
-    /// ones and behind them. What hides the last one of a run hides them all.
+    /// Closes the cases of one core's candidates: one range for those after the read, and one for each run of those hidden from it, behind the kept
+    /// ones and before them. What hides the last one of a run hides them all.
     fn close_core(&mut self, cases: &mut Cases, core: u32) -> Tried<()> {
         let operation = self.operations.get(cases.read);
         let stores = self
@@ -136,14 +136,14 @@ impl Knowledge<'_> {
             .candidates_of(&operation, self.operations, core);
         self.budget.spend(stores.len() as u64 / PLACES)?;
         let count = self.count_not_after(cases, stores)?;
-        let rest = cut(stores, 0, count);
-        let first = rest.iter().position(|store| self.is_kept(cases, *store));
+        let mut rest = cut(stores, 0, count).iter();
+        let first = rest.position(|store| self.is_kept(cases, *store));
         let first = first.unwrap_or(count);
-        let behind = cut(rest, first, count);
+        let behind = cut(stores, first, count);
         let kept = behind.partition_point(|store| self.is_kept(cases, *store));
-        self.close_hidden(cases, cut(rest, 0, first))?;
+        self.close_after(cases, cut(stores, count, stores.len()))?;
         self.close_hidden(cases, cut(behind, kept, behind.len()))?;
-        self.close_after(cases, cut(stores, count, stores.len()))
+        self.close_hidden(cases, cut(stores, 0, first))
     }
 
     /// Whether a candidate lies in the range that is kept.
@@ -172,20 +172,15 @@ impl Knowledge<'_> {
 
     /// Closes the cases of one core's candidates that are after the read, except the kept ones and the read itself.
     fn close_after(&mut self, cases: &mut Cases, stores: &[Place]) -> Tried<()> {
-        let (mut first, mut last) = (cases.read, cases.read);
-        for store in stores {
-            if *store != cases.read && !self.is_kept(cases, *store) {
-                last = *store;
-                if first == cases.read {
-                    first = *store;
-                }
-            }
-        }
-        if first != cases.read
-            && let Some(path) = self.chain(cases.read, first, cases.fact)?
-        {
+        let mut closed = stores.iter().copied().filter(|store| *store != cases.read
+            && !self.is_kept(cases, *store));
+        let Some(first) = closed.next() else {
+            return Ok(());
+        };
+        let last = closed.last().unwrap_or(first);
+        if let Some(path) = self.chain(cases.read, first, cases.fact)? {
             cases.ranges.push((first, last))?;
-            cases.steps.close(cases.fact, path)?;
+            cases.proof.close(cases.fact, path)?;
         }
         Ok(())
     }
@@ -197,8 +192,8 @@ impl Knowledge<'_> {
             && let Some((from_read, path)) = self.least_hiding(cases, *last)?
         {
             cases.ranges.push((*first, *last))?;
-            cases.steps.derive(from_read)?;
-            cases.steps.close(CASE_FROM_READ, path)?;
+            cases.proof.close(CASE_FROM_READ, path)?;
+            cases.proof.derive(from_read)?;
         }
         Ok(())
     }

@@ -29,10 +29,8 @@ pub(crate) struct Facts {
     pub(crate) all: Vec<Fact>,
     /// For each operation, the last fact in which it is the earlier one, or NONE.
     latest: Vec<u32>,
-    /// For each read, the fact that says which its source is, or NONE.
-    pub(crate) sources: Vec<u32>,
-    /// For each read, as far as the list goes, the last fact that says in which range its source is, or NONE.
-    ranges: Vec<u32>,
+    /// For each read, the last fact that says where its source lies, or NONE.
+    sources: Vec<u32>,
 }
 
 impl Facts {
@@ -42,7 +40,6 @@ impl Facts {
             all: Vec::new(alloc),
             latest: vec![in alloc; NONE; operations]?,
             sources: vec![in alloc; NONE; operations]?,
-            ranges: Vec::new(alloc),
         })
     }
 
@@ -58,37 +55,30 @@ impl Facts {
 
     /// What is known about where a read's source lies: the number of the fact, the first and the last place.
     pub(crate) fn source(&self, read: Place) -> Option<(u32, Place, Place)> {
-        let exact = self.get(at(&self.sources, read));
-        let (number, fact) = exact.or(self.get(at(&self.ranges, read)))?;
+        let (number, fact) = self.get(at(&self.sources, read))?;
         match fact.reason {
             Reason::Source(last) => Some((number, fact.earlier, last)),
             _ => None,
         }
     }
 
-    /// Notes that the fact of this number says in which range a read's source is.
-    pub(crate) fn set_range(&mut self, read: Place, number: u32) -> Tried<()> {
-        let length = (read as usize).saturating_add(1).max(self.ranges.len());
-        self.ranges.resize(length, NONE)?;
-        put(&mut self.ranges, read, number)
-    }
-
     /// What is before what, as the facts say, sorted.
     pub(crate) fn precedences(&self, alloc: Global) -> Tried<Vec<Precedence>> {
-        let facts = self.all.iter().zip(0..=u32::MAX);
-        let precedences = facts.map(|(fact, number)| Precedence {
-            later: fact.later,
-            fact: number,
-            earlier: fact.earlier,
-        });
-        let mut precedences: Vec<Precedence> = precedences.collect(alloc)?;
+        let mut precedences = Vec::with_capacity(alloc, self.all.len())?;
+        for (fact, number) in self.all.iter().zip(0..=u32::MAX) {
+            precedences.push(Precedence {
+                later: fact.later,
+                fact: number,
+                earlier: fact.earlier,
+            })?;
+        }
         precedences.sort_unstable();
         Ok(precedences)
     }
 
-    /// Whether a fact says which a read's source is.
-    pub(crate) fn is_source(&self, number: u32, fact: &Fact) -> bool {
-        at(&self.sources, fact.later) == number
+    /// Whether it is known which a read's source is.
+    pub(crate) fn has_source(&self, read: Place) -> bool {
+        matches!(self.source(read), Some((_, first, last)) if first == last)
     }
 
     /// Appends a fact, and gives its number.
@@ -102,6 +92,9 @@ impl Facts {
             reason,
         })?;
         put(&mut self.latest, earlier, number)?;
+        if matches!(reason, Reason::Source(_)) {
+            put(&mut self.sources, later, number)?;
+        }
         Ok(number)
     }
 }

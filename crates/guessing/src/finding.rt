@@ -1,15 +1,14 @@
 //! Finds an order of a trace, or a refutation: tries the ways to search one after the other.
 
-use super::closing::{Closed, Closing};
+use super::closing::Closing;
 use super::knowledge::Knowledge;
 use super::numbering::steps;
 use super::shrinking::shrink;
-use super::walks::Walks;
 use numbered_trace::{
     Budget, Classes, Operations, Place, SearchWatch, Stop, Tried, id, number, short,
 };
 use refutation::{Answer, Refutation};
-use state_walk::{Precedence, Walked};
+use state_walk::{Clocks, Walk, groups_of};
 use std::alloc::{AllocError, Global};
 use trace::Trace;
 
@@ -33,175 +32,187 @@ pub fn guess<W: SearchWatch>(
 }
 
 /// An order, or a refutation. The search may give up.
-fn find<W: SearchWatch>(alloc: Global, trace: &Trace, budget: Budget, watch: &W) -> Tried<Answer> {
-    let (operations, classes) = number(alloc, trace.cores())?;
-    find_numbered(alloc, trace, &operations, &classes, budget, watch)
-}
-
-/// The same. If many words repeat, a walk without facts comes first.
-fn find_numbered<'a, W: SearchWatch>(
+fn find<'t, W: SearchWatch>(
     alloc: Global,
-    trace: &'a Trace,
-    operations: &'a Operations,
-    classes: &'a Classes,
+    trace: &'t Trace,
     budget: Budget,
-    watch: &W,
+    watch: &'t W,
 ) -> Tried<Answer> {
-    let are_distinct = are_distinct(operations, classes);
-    let walks = Walks::new(alloc, operations, classes, are_distinct)?;
+    let (operations, classes) = number(alloc, trace.cores())?;
+    let groups = groups_of(alloc, &operations, classes.count_addresses())?;
     let mut finding = Finding {
         alloc,
         trace,
-        operations,
-        classes,
-        walks,
-        clocks: Vec::new(alloc),
+        operations: &operations,
+        classes: &classes,
+        groups: &groups,
+        order: Vec::new(alloc),
         budget,
+        watch,
     };
-    if !are_distinct {
-        let each = FIRST_EACH.saturating_mul(operations.all.len() as u64);
-        let steps = FIRST.saturating_add(each).min(budget.left() / 2);
-        finding.walk(steps, watch)?;
+    let stopped = finding.walk_first()?;
+    if finding.groups.is_empty() {
+        return finding.order();
     }
-    finding.run(watch)
+    let (refuted, clocks) = finding.by_rules()?;
+    match refuted {
+        Some(refuted) => Ok(refuted),
+        None => finding.go_on(stopped, &clocks),
+    }
 }
 
 /// Whether nearly every read has one candidate: no more than one read in eight has several.
 fn are_distinct(operations: &Operations, classes: &Classes) -> bool {
     let (mut reads, mut open) = (0usize, 0usize);
-    for operation in operations.all.iter().filter(|operation| operation.reads()) {
-        reads = reads.saturating_add(1);
-        if classes.candidates(operation).len() > 1 {
-            open = open.saturating_add(1);
-        }
+    for operation in &operations.all {
+        reads = reads.saturating_add(usize::from(operation.read().is_some()));
+        open = open.saturating_add(usize::from(classes.candidates(operation).len() > 1));
     }
     open <= reads / 8
 }
 
 /// How far the search is.
 #[derive(Drop)]
-struct Finding<'a> {
+struct Finding<'a, 't, W> {
     alloc: Global,
-    trace: &'a Trace,
+    trace: &'t Trace,
     operations: &'a Operations,
     classes: &'a Classes,
-    walks: Walks<'a>,
-    /// What is known to be before each operation; empty if nothing is known.
-    clocks: Vec<Place>,
+    /// The groups of cores that share no address, without those that have an order.
+    groups: &'a [Vec<u32>],
+    /// The order of the others.
+    order: Vec<Place>,
     budget: Budget,
+    watch: &'t W,
 }
 
-impl Finding<'_> {
-    /// Goes on after the walk without facts: concludes what follows without cases, walks on with all facts, looks for a closed set of states, and
-    /// walks on to the end.
-    fn run<W: SearchWatch>(&mut self, watch: &W) -> Tried<Answer> {
-        if self.walks.walked != Walked::Order
-            && let Some(answer) = self.by_rules(watch)?
-        {
-            return Ok(answer);
+impl<'a, W: SearchWatch> Finding<'a, '_, W> {
+    /// Walks without facts, unless words are distinct. Gives a walk that came to all states before it came to an order, if one did.
+    fn walk_first(&mut self) -> Tried<Option<Walk<'a>>> {
+        if are_distinct(self.operations, self.classes) {
+            return Ok(None);
         }
+        let each = FIRST_EACH.saturating_mul(self.operations.all.len() as u64);
+        let steps = FIRST.saturating_add(each).min(self.budget.left() / 2);
+        let stopped = self.walk(None, None, steps)?;
+        Ok(stopped.filter(|walk| walk.is_closed()))
+    }
+
+    /// Goes on with what is known to be before each operation, from the walk that stopped, if one did: walks on, looks for a closed set of states,
+    /// and walks on to the end.
+    fn go_on(mut self, stopped: Option<Walk<'a>>, clocks: &'a Clocks) -> Tried<Answer> {
         let steps = self.budget.left() / 2;
-        self.walk(steps, watch)?;
-        if self.walks.walked != Walked::Order
-            && let Some(answer) = self.by_states(watch)?
-        {
-            return Ok(answer);
+        let Some(mut walk) = self.walk(stopped, Some(clocks), steps)? else {
+            return self.order();
+        };
+        if let Some(refuted) = self.by_states(&mut walk)? {
+            return Ok(refuted);
         }
-        self.walk(u64::MAX, watch)?;
+        self.walk(Some(walk), Some(clocks), u64::MAX)?;
         self.order()
     }
 
-    /// Walks on for at most this many steps, unless the walk has come to its end.
-    fn walk<W: SearchWatch>(&mut self, steps: u64, watch: &W) -> Tried<()> {
+    /// Walks for at most this many steps, over one group after the other. It goes on from a walk that stopped, if one did. Gives the walk that stops
+    /// before it comes to an order, if one does.
+    fn walk(
+        &mut self,
+        stopped: Option<Walk<'a>>,
+        clocks: Option<&'a Clocks>,
+        steps: u64,
+    ) -> Tried<Option<Walk<'a>>> {
+        let mut stopped = stopped;
         self.budget.allow(steps);
-        self.walks.run(&mut self.clocks, &mut self.budget, watch)?;
+        for _ in 0..self.groups.len() {
+            let [others @ .., cores] = self.groups else {
+                break;
+            };
+            let mut walk = match stopped.take() {
+                Some(walk) => walk,
+                None => Walk::new(self.alloc, self.operations, self.classes, cores, clocks)?,
+            };
+            if !walk.run(&mut self.budget, self.watch)? {
+                stopped = Some(walk);
+                break;
+            }
+            self.order.extend_from_slice(walk.order())?;
+            self.groups = others;
+        }
         self.budget.allow(u64::MAX);
-        Ok(())
+        Ok(stopped)
     }
 
-    /// A refutation by what follows without cases, if there is one. This may take half of the steps that are left.
-    fn by_rules<W: SearchWatch>(&mut self, watch: &W) -> Tried<Option<Answer>> {
+    /// A refutation by what follows without cases, if there is one, and what is known to be before each operation. This may take half of the steps
+    /// that are left.
+    fn by_rules(&mut self) -> Tried<(Option<Answer>, Clocks)> {
         self.budget.allow(self.budget.left() / 2);
         let mut known = Knowledge::new(self.alloc, self.operations, self.classes, self.budget)?;
-        match known.refute(watch) {
+        let refuted = match known.refute(self.watch) {
             Ok(Some(reversed)) => {
-                let (lines, places) = shrink(self.trace.cores(), &mut known, reversed, watch)?;
+                let (lines, places) = shrink(self.trace.cores(), &mut known, reversed, self.watch)?;
                 let steps = steps(self.alloc, self.operations, &places, &lines)?;
-                return Ok(Some(Answer::Refutation(Refutation::new(steps))));
+                Some(Answer::Refutation(Refutation::new(steps)))
             }
-            Ok(None) | Err(Stop::GivenUp) => {}
+            Ok(None) | Err(Stop::GivenUp) => None,
             Err(stop) => return Err(stop),
-        }
+        };
         self.budget = known.budget;
         self.budget.allow(u64::MAX);
-        self.clocks = known.clocks.into_entries();
-        if self.walks.walked == Walked::GivenUp {
-            self.walks.restart()?;
-        }
-        Ok(None)
+        Ok((refuted, known.clocks))
     }
 
     /// A refutation by a closed set of states, if it finds one where the walk stopped: without facts, or else with them.
-    fn by_states<W: SearchWatch>(&mut self, watch: &W) -> Tried<Option<Answer>> {
-        if let Some(Closed { step, .. }) = self.close(&[], watch)? {
-            let steps = vec![in self.alloc; step]?;
-            return Ok(Some(Answer::Refutation(Refutation::new(steps))));
+    fn by_states(&mut self, walk: &mut Walk) -> Tried<Option<Answer>> {
+        let mut known = Knowledge::new(self.alloc, self.operations, self.classes, self.budget)?;
+        if let Some(refuted) = self.close(walk, &mut known)? {
+            return Ok(Some(refuted));
         }
         self.budget.allow(self.budget.left() / 2);
-        let mut known = Knowledge::new(self.alloc, self.operations, self.classes, self.budget)?;
-        let saturated = known.saturate(watch);
+        known.budget = self.budget;
+        let saturated = known.saturate(self.watch);
         self.budget = known.budget;
         self.budget.allow(u64::MAX);
         match saturated {
-            Ok(()) => self.by_facts(&mut known, watch),
+            Ok(()) => self.close(walk, &mut known),
             Err(Stop::GivenUp) => Ok(None),
             Err(stop) => Err(stop),
         }
     }
 
-    /// A refutation by a closed set of states under what is known, if it finds one.
-    fn by_facts<W: SearchWatch>(
-        &mut self,
-        known: &mut Knowledge,
-        watch: &W,
-    ) -> Tried<Option<Answer>> {
+    /// A refutation by a closed set of states in which moves wait for what is known, if it finds one. If the walk came to all states, nothing else is
+    /// left to try, so this gets more of the steps.
+    fn close(&mut self, walk: &mut Walk, known: &mut Knowledge) -> Tried<Option<Answer>> {
         let precedences = known.facts.precedences(self.alloc)?;
-        let Some(Closed { step, facts }) = self.close(&precedences, watch)? else {
-            return Ok(None);
-        };
-        known.budget = self.budget;
-        let lines = known.showing(&facts)?;
-        let places = 0..short(self.operations.all.len())?;
-        let places: Vec<Place> = places.collect(self.alloc)?;
-        let mut steps = steps(self.alloc, self.operations, &places, &lines)?;
-        steps.push(step)?;
-        Ok(Some(Answer::Refutation(Refutation::new(steps))))
-    }
-
-    /// A closed set of states in which moves wait for what is known, if it finds one. If the walk came to all states, nothing else is left to try, so
-    /// this gets more of the steps.
-    fn close<W: SearchWatch>(&mut self, known: &[Precedence], watch: &W) -> Tried<Option<Closed>> {
-        let is_closed = self.walks.walked == Walked::Closed;
+        let cores: Vec<u32> = self.operations.cores().collect(self.alloc)?;
         let closing = Closing {
             alloc: self.alloc,
             operations: self.operations,
             classes: self.classes,
-            known,
-            share: if is_closed { 2 } else { 16 },
+            cores: &cores,
+            known: &precedences,
+            share: if walk.is_closed() { 2 } else { 16 },
+            watch: self.watch,
         };
-        match &mut self.walks.stopped {
-            Some(walk) => closing.close(walk, &mut self.budget, watch),
-            None => Ok(None),
-        }
+        let Some(closed) = closing.close(walk, &mut self.budget)? else {
+            return Ok(None);
+        };
+        known.budget = self.budget;
+        let lines = known.showing(&closed.facts)?;
+        let places = 0..short(self.operations.all.len())?;
+        let places: Vec<Place> = places.collect(self.alloc)?;
+        let mut steps = steps(self.alloc, self.operations, &places, &lines)?;
+        steps.push(closed.step(self.alloc, self.classes)?)?;
+        Ok(Some(Answer::Refutation(Refutation::new(steps))))
     }
 
-    /// The order that the walk came to.
+    /// The order that the walks came to. The search gives up if a group has none.
     fn order(&self) -> Tried<Answer> {
-        if self.walks.walked != Walked::Order {
+        if !self.groups.is_empty() {
             return Err(Stop::GivenUp);
         }
-        let places = self.walks.order.iter();
-        let order = places.map(|place| id(self.operations, *place));
-        Ok(Answer::Order(order.try_collect(self.alloc)?))
+        let mut order = Vec::with_capacity(self.alloc, self.order.len())?;
+        for place in &self.order {
+            order.push(id(self.operations, *place)?)?;
+        }
+        Ok(Answer::Order(order))
     }
 }

@@ -1,9 +1,9 @@
 //! All that is known of the orders that a trace can have.
 
-use super::clocks::Clocks;
 use super::facts::{Facts, Reason};
 use super::stores::{Stores, count_first};
 use numbered_trace::{Budget, Classes, Conflict, CoreSet, Operations, Place, Stop, Tried, at};
+use state_walk::Clocks;
 use std::alloc::Global;
 use std::collections::VecDeque;
 

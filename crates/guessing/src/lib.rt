@@ -2,7 +2,6 @@
 #![tactic(auto)]
 
 mod chains;
-mod clocks;
 mod closing;
 mod explanation;
 mod facts;
@@ -14,7 +13,6 @@ mod rules;
 mod saturation;
 mod shrinking;
 mod stores;
-mod walks;
 
 pub use finding::guess;
 pub use numbered_trace::{SearchWatch, Unwatched};

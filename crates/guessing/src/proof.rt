@@ -53,12 +53,6 @@ impl Proof {
         }
     }
 
-    /// Puts another proof before this one, and leaves nothing in the other.
-    pub(crate) fn prepend_proof(&mut self, other: &mut Proof) -> Tried<()> {
-        self.needs.append(&mut other.needs)?;
-        Ok(self.reversed.append(&mut other.reversed)?)
-    }
-
     /// Puts a step of from-read or of write-order before the others. The step needs its path.
     pub(crate) fn derive(&mut self, derived: Derived) -> Tried<()> {
         self.need(&derived.path)?;

@@ -3,23 +3,13 @@
 use super::facts::Reason;
 use super::knowledge::Knowledge;
 use super::stores::count_first;
-use numbered_trace::{CoreSet, Place, START, Tried, put};
+use numbered_trace::{CoreSet, Place, START, Tried};
 
 impl Knowledge<'_> {
-    /// Gives a read its source. The first store of each core after that source comes after the read. Notes that everything
-    /// is to be concluded from the read.
-    pub(crate) fn set_source(&mut self, read: Place, source: Place) -> Tried<()> {
-        let number = self.add(source, read, Reason::Source(source))?;
-        put(&mut self.facts.sources, read, number)?;
-        self.order_stores_after(read, number, source)?;
-        self.note(read, CoreSet::ALL)
-    }
-
-    /// Adds that a read's source lies in the range from one store to another of the same core. Notes that everything is to be concluded from the
-    /// read.
-    pub(crate) fn set_range(&mut self, read: Place, first: Place, last: Place) -> Tried<()> {
+    /// Adds that a read's source lies in the range from one store to another of the same core. The first store of each core after that range comes
+    /// after the read. Notes that everything is to be concluded from the read.
+    pub(crate) fn set_source(&mut self, read: Place, first: Place, last: Place) -> Tried<()> {
         let number = self.add(first, read, Reason::Source(last))?;
-        self.facts.set_range(read, number)?;
         self.order_stores_after(read, number, last)?;
         self.note(read, CoreSet::ALL)
     }
@@ -67,7 +57,7 @@ impl Knowledge<'_> {
     /// was applied already.
     pub(crate) fn order_reads_before(&mut self, store: Place, cores: CoreSet) -> Tried<()> {
         let operation = self.operations.get(store);
-        if !operation.stores() {
+        if operation.stored().is_none() {
             return Ok(());
         }
         let own = self.last_store(store, operation.core());
@@ -89,7 +79,7 @@ impl Knowledge<'_> {
                 break;
             };
             self.budget.spend(1)?;
-            if self.facts.is_source(number, &fact) {
+            if matches!(fact.reason, Reason::Source(last) if last == source) {
                 self.learn(fact.later, store, number)?;
             }
             next = self.facts.get(fact.next);

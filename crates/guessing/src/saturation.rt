@@ -2,7 +2,7 @@
 
 use super::knowledge::{Knowledge, Risen};
 use numbered_trace::{
-    Conflict, CoreSet, NONE, Operation, Place, START, SearchWatch, Stop, Tried, at, put,
+    Conflict, CoreSet, Operation, Place, START, SearchWatch, Stop, Tried, at, put,
 };
 
 /// How many operations of a core come in before the next core's.
@@ -72,15 +72,15 @@ impl Knowledge<'_> {
             self.clocks.join(previous, place)?;
         }
         put(&mut self.entered, core, place.saturating_add(1))?;
-        if operation.stores() {
+        if operation.stored().is_some() {
             self.stores.activate(operation.address, core)?;
         }
-        if operation.reads() {
+        if operation.read().is_some() {
             let candidates = self.classes.candidates(&operation).iter().copied();
             let mut others = candidates.filter(|store| *store != place);
             match (others.next(), others.next()) {
                 (None, _) => return Err(Stop::Closed(Conflict::NoSource(place))),
-                (Some(source), None) => self.set_source(place, source)?,
+                (Some(source), None) => self.set_source(place, source, source)?,
                 _ => self.open.push(place)?,
             }
         }
@@ -144,13 +144,12 @@ impl Knowledge<'_> {
 
     /// Gives an open read its source if all candidates but one are excluded, or else the range of the others. Says whether that brought a new fact.
     fn settle(&mut self, read: Place) -> Tried<bool> {
-        if at(&self.facts.sources, read) != NONE {
+        if self.facts.has_source(read) {
             return Ok(false);
         }
         let facts = self.facts.all.len();
         match self.left(read)? {
             Left::Nothing => return Err(Stop::Closed(Conflict::NoSource(read))),
-            Left::Range(first, last) if first == last => self.set_source(read, first)?,
             Left::Range(first, last) => self.narrow(read, first, last)?,
             Left::Several => {}
         }
@@ -164,7 +163,7 @@ impl Knowledge<'_> {
             Some((number, from, to)) if (from, to) == (first, last) => {
                 self.order_stores_after(read, number, last)
             }
-            _ => self.set_range(read, first, last),
+            _ => self.set_source(read, first, last),
         }
     }
 

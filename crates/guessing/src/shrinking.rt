@@ -102,27 +102,32 @@ impl Shrinking<'_> {
     /// isn't longer.
     fn attempt(&mut self, kept: &[Place]) -> Tried<()> {
         let places = self.with_candidates(kept)?;
+        if let Some(lines) = self.refute(&places, kept)?
+            && lines.len() <= self.best.len()
+        {
+            self.named = named(self.alloc, &lines, &places)?;
+            self.named.retain(|place| kept.binary_search(place).is_ok());
+            (self.best, self.places) = (lines, places);
+        }
+        Ok(())
+    }
+
+    /// A proof that the operations at these places, of which the candidates aren't kept, have no order, if it finds one.
+    fn refute(&mut self, places: &[Place], kept: &[Place]) -> Tried<Option<Vec<Line>>> {
         let steps = STEPS.saturating_add(STEPS_EACH.wrapping_mul(places.len() as u64));
         self.budget.use_up(places.len() as u64);
         if places.len() > LIMIT || self.budget.left() < steps {
-            return Ok(());
+            return Ok(None);
         }
-        let trace = self.small_trace(&places, kept)?;
+        let trace = self.small_trace(places, kept)?;
         let (operations, classes) = number(self.alloc, &trace)?;
-        let budget = Budget::new(steps);
-        let mut known = Knowledge::new(self.alloc, &operations, &classes, budget)?;
+        let mut known = Knowledge::new(self.alloc, &operations, &classes, Budget::new(steps))?;
         let found = known.refute(&Unwatched);
-        self.budget
-            .use_up(steps.saturating_sub(known.budget.left()));
+        let left = known.budget.left();
+        self.budget.use_up(steps.saturating_sub(left));
         match found {
-            Ok(Some(lines)) if lines.len() <= self.best.len() => {
-                self.named = named(self.alloc, &lines, &places)?;
-                self.named.retain(|place| kept.binary_search(place).is_ok());
-                (self.best, self.places) = (lines, places);
-                Ok(())
-            }
             Err(Stop::Refused) => Err(Stop::Refused),
-            _ => Ok(()),
+            found => Ok(found.unwrap_or(None)),
         }
     }
 
@@ -139,15 +144,15 @@ impl Shrinking<'_> {
         Ok(places)
     }
 
-    /// The trace of the operations at these places. A swap that isn't kept becomes a store of its word.
+    /// The trace of the operations at these places, of which START is the first. A swap that isn't kept becomes a store of its word.
     fn small_trace(&self, places: &[Place], kept: &[Place]) -> Tried<Vec<Vec<Access>>> {
         let none = self.cores.iter().map(|_| Vec::new(self.alloc));
         let mut trace: Vec<Vec<Access>> = none.collect(self.alloc)?;
-        for place in places.iter().copied().filter(|place| *place != START) {
-            let (core, index) = self.operations.position(place);
+        for place in places.iter().skip(1) {
+            let (core, index) = self.operations.position(*place);
             let own = self.cores.get(core as usize).ok_or(Stop::GivenUp)?;
             let mut access = *own.get(index as usize).ok_or(Stop::GivenUp)?;
-            if kept.binary_search(&place).is_err() {
+            if kept.binary_search(place).is_err() {
                 access = Access::store(access.addr(), access.word_left());
             }
             let small = trace.get_mut(core as usize).ok_or(Stop::GivenUp)?;

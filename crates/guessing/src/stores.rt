@@ -18,7 +18,7 @@ impl Stores {
     /// The stores of these operations, to this many addresses. None is active.
     pub(crate) fn new(alloc: Global, operations: &Operations, addresses: u32) -> Tried<Stores> {
         let all = 0..short(operations.all.len())?;
-        let stored = all.filter(|place| operations.get(*place).stores());
+        let stored = all.filter(|place| operations.get(*place).stored().is_some());
         let mut places: Vec<Place> = stored.collect(alloc)?;
         places.sort_unstable_by_key(|place| (operations.get(*place).address, *place));
         let cores = operations.cores().end;

@@ -35,16 +35,6 @@ impl Operation {
         (self.stored != NONE).then_some(self.stored)
     }
 
-    /// Whether it is a load or a swap.
-    pub fn reads(&self) -> bool {
-        self.read != NONE
-    }
-
-    /// Whether it is a store or a swap.
-    pub fn stores(&self) -> bool {
-        self.stored != NONE
-    }
-
     /// Whether it leaves memory as it is, wherever it can be performed.
     pub fn is_quiet(&self) -> bool {
         self.stored == NONE || self.stored == self.read
@@ -118,11 +108,6 @@ impl Operations {
     /// The operation at a place; START if there is none.
     pub fn get(&self, place: Place) -> Operation {
         self.all.get(place as usize).copied().unwrap_or(BEGINNING)
-    }
-
-    /// The operations from one place up to another; none if the list doesn't have them all.
-    pub fn part(&self, from: Place, to: Place) -> &[Operation] {
-        self.all.get(from as usize..to as usize).unwrap_or(&[])
     }
 
     /// The core of the operation at a place.

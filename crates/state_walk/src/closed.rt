@@ -1,6 +1,5 @@
 //! Closed sets of states: none of their states is final, and whatever can be reached from one of them is in the set, too.
 
-use super::dead::Dead;
 use super::state::State;
 use super::visited::Visited;
 use numbered_trace::{Budget, Classes, Operations, Place, SearchWatch, Tried, at};
@@ -38,22 +37,22 @@ pub struct ClosedSet<'a> {
 }
 
 impl<'a> ClosedSet<'a> {
-    /// A walk over the states of operations; those at other addresses than these neither read nor store. Whatever may change memory waits for what is
-    /// known to be before it by this list, which is sorted.
+    /// A walk over the states of the operations of all cores, which are listed; those at other addresses than these neither read nor store. Whatever
+    /// may change memory waits for what is known to be before it by this list, which is sorted.
     pub fn new(
         alloc: Global,
         operations: &'a Operations,
         classes: &'a Classes,
+        cores: &'a [u32],
         addresses: &'a [u32],
         known: &'a [Precedence],
     ) -> Tried<ClosedSet<'a>> {
-        let cores: Vec<u32> = operations.cores().collect(alloc)?;
         Ok(ClosedSet {
             alloc,
             classes,
             addresses,
             known,
-            state: State::new(alloc, operations, classes, cores)?,
+            state: State::new(alloc, operations, classes, cores, None)?,
             visited: Visited::new(alloc)?,
             moves: Vec::new(alloc),
             states: Vec::new(alloc),
@@ -95,12 +94,12 @@ impl<'a> ClosedSet<'a> {
             return Ok(());
         }
         let words = self.words()?;
-        let next = self.next()?;
+        let next = self.indices(|core| at(&self.state.positions, core))?;
         let Some(dead) = self.state.dead(ruined) else {
             self.states.push(refutation::State::Open { next, words })?;
             return self.enter_moves();
         };
-        let limits = self.limits(dead)?;
+        let limits = self.indices(|core| self.state.limit(dead, core))?;
         Ok(
             self.states.push(refutation::State::Dead {
                 next,
@@ -113,12 +112,11 @@ impl<'a> ClosedSet<'a> {
     /// Enters the moves from the state.
     fn enter_moves(&mut self) -> Tried<()> {
         let length = self.state.order.len();
-        for place in 0..self.state.cores.len() {
-            let core = self.state.cores.get(place).copied().unwrap_or(0);
-            if self.state.able(core).is_some() {
-                match self.awaited(core) {
+        for core in self.state.cores {
+            if self.state.able(*core).is_some() {
+                match self.awaited(*core) {
                     Some(fact) => self.used.push(fact)?,
-                    None => self.moves.push((length, core))?,
+                    None => self.moves.push((length, *core))?,
                 }
             }
         }
@@ -147,23 +145,15 @@ impl<'a> ClosedSet<'a> {
         Ok(Numbers::new(words.collect(self.alloc)?))
     }
 
-    /// For each core, the index of its next operation.
-    fn next(&self) -> Tried<Numbers> {
-        let cores = self.state.cores.iter();
-        let next = cores.map(|core| self.index(*core, at(&self.state.positions, *core)));
-        Ok(Numbers::new(next.collect(self.alloc)?))
-    }
-
-    /// For each core, the index at which it waits in a dead state, or how many operations it has.
-    fn limits(&self, dead: Dead) -> Tried<Numbers> {
-        let cores = self.state.cores.iter();
-        let limits = cores.map(|core| self.index(*core, self.state.limit(dead, *core)));
-        Ok(Numbers::new(limits.collect(self.alloc)?))
-    }
-
-    /// The index of a core's operation at a place.
-    fn index(&self, core: u32, place: Place) -> u64 {
-        let start = at(&self.state.operations.starts, core);
-        u64::from(place.saturating_sub(start))
+    /// For each core, the index of its operation at this place.
+    fn indices<F: Fn(u32) -> Place>(&self, place: F) -> Tried<Numbers>
+        requires { F.IsAlwaysCallable place }
+    {
+        let mut indices = Vec::with_capacity(self.alloc, self.state.cores.len())?;
+        for core in self.state.cores {
+            let start = at(&self.state.operations.starts, *core);
+            indices.push(u64::from(place(*core).saturating_sub(start)))?;
+        }
+        Ok(Numbers::new(indices))
     }
 }

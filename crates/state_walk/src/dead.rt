@@ -30,28 +30,20 @@ impl State<'_> {
 
     /// A read, still to come, of a class that memory doesn't have, if nothing stores that class from here on.
     fn starved(&self, class: u32) -> Option<Dead> {
-        let mut read = None;
-        let mut next = self.touches.first(class);
-        for _ in 0..self.positions.len() {
-            let Some(touched) = next else {
-                break;
-            };
-            let position = at(&self.positions, touched.core);
-            if touched.last_store >= position {
-                return None;
-            }
-            if touched.last_read >= position {
-                read = Some(Dead::Starved(touched.last_read));
-            }
-            next = self.touches.next(&touched);
+        if self.is_stored_by_others(class, CoreSet::NONE) {
+            return None;
         }
-        read
+        let reader = self.touches.find(
+            class,
+            |touched| touched.last_read >= at(&self.positions, touched.core),
+        );
+        Some(Dead::Starved(reader?.last_read))
     }
 
     /// Some cores that wait for words that only these cores store from here on.
     fn deadlocked(&self) -> Option<Dead> {
         let mut waiting = CoreSet::NONE;
-        for core in &self.cores {
+        for core in self.cores {
             if self.awaits(*core).is_some() {
                 waiting.insert(*core);
             }
@@ -68,7 +60,7 @@ impl State<'_> {
 
     /// Takes out of a set the cores that wait for a word that others store from here on.
     fn release(&self, waiting: &mut CoreSet) {
-        for core in &self.cores {
+        for core in self.cores {
             if waiting.contains(*core)
                 && let Some(class) = self.awaits(*core)
                 && self.is_stored_by_others(class, *waiting)
@@ -87,17 +79,9 @@ impl State<'_> {
 
     /// Whether a core that isn't in a set stores a class from here on.
     fn is_stored_by_others(&self, class: u32, cores: CoreSet) -> bool {
-        let mut next = self.touches.first(class);
-        for _ in 0..self.positions.len() {
-            let Some(touched) = next else {
-                break;
-            };
-            let position = at(&self.positions, touched.core);
-            if touched.last_store >= position && !cores.contains(touched.core) {
-                return true;
-            }
-            next = self.touches.next(&touched);
-        }
-        false
+        let storer = self.touches.find(class, |touched| {
+            touched.last_store >= at(&self.positions, touched.core) && !cores.contains(touched.core)
+        });
+        storer.is_some()
     }
 }

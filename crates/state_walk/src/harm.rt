@@ -11,7 +11,10 @@ impl State<'_> {
     pub(crate) fn ahead(&self, core: u32, count: u32) -> &[Operation] {
         let from = at(&self.positions, core);
         let to = self.operations.end(core).min(from.saturating_add(count));
-        self.operations.part(from, to)
+        match self.operations.all.get(from as usize..to as usize) {
+            Some(ahead) => ahead,
+            None => &[],
+        }
     }
 
     /// Whether a core's next operation is a store that harms nobody: neither what it writes over nor what it stores is read
@@ -24,19 +27,11 @@ impl State<'_> {
 
     /// Whether a class is read from here on by anything but a core's next operation.
     fn is_read_after(&self, core: u32, class: u32) -> bool {
-        let mut next = self.touches.first(class);
-        for _ in 0..self.positions.len() {
-            let Some(touched) = next else {
-                break;
-            };
+        let reader = self.touches.find(class, |touched| {
             let own = u32::from(touched.core == core);
-            let position = at(&self.positions, touched.core);
-            if touched.last_read >= position.saturating_add(own) {
-                return true;
-            }
-            next = self.touches.next(&touched);
-        }
-        false
+            touched.last_read >= at(&self.positions, touched.core).saturating_add(own)
+        });
+        reader.is_some()
     }
 
     /// How long a core's next operation, a store, keeps others from its address: how many operations have to be performed, as far as that is known,

@@ -22,7 +22,7 @@ impl State<'_> {
     /// How likely a state is to lead to the end: the more, the likelier.
     pub(crate) fn outlook(&self) -> u64 {
         let mut outlook = EVEN;
-        for core in &self.cores {
+        for core in self.cores {
             let lag = self.lag(*core);
             outlook = self
                 .with_reads(*core, outlook)
@@ -89,17 +89,10 @@ impl State<'_> {
                 break;
             };
             if *other != core && *store < self.operations.end(*other) {
-                nearest = nearer(nearest, store.saturating_sub(position));
+                let ahead = store.saturating_sub(position);
+                nearest = Some(nearest.map_or(ahead, |least: Place| least.min(ahead)));
             }
         }
         nearest
-    }
-}
-
-/// The lesser of two distances; the first may be none.
-fn nearer(one: Option<Place>, other: Place) -> Option<Place> {
-    match one {
-        Some(one) if one < other => Some(one),
-        _ => Some(other),
     }
 }

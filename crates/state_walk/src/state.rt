@@ -1,5 +1,6 @@
 //! A state, with the operations that led to it.
 
+use super::clocks::Clocks;
 use super::touches::Touches;
 use numbered_trace::{Classes, Operation, Operations, Place, Stop, Tried, at, put};
 use std::alloc::Global;
@@ -14,7 +15,7 @@ pub(crate) struct State<'a> {
     pub(crate) classes: &'a Classes,
     pub(crate) touches: Touches,
     /// The cores that take part.
-    pub(crate) cores: Vec<u32>,
+    pub(crate) cores: &'a [u32],
     /// How many operations these have.
     pub(crate) total: usize,
     /// For each core, the place of its next operation.
@@ -25,9 +26,8 @@ pub(crate) struct State<'a> {
     pub(crate) order: Vec<Place>,
     /// For each store among them, the class of the word that it found.
     found: Vec<u32>,
-    /// For each operation, one after the other, and each core, a place: the core's operations below it come before the
-    /// operation. Empty if nothing is known.
-    pub(crate) clocks: Vec<Place>,
+    /// What is known to be before each operation, if anything is.
+    clocks: Option<&'a Clocks>,
     /// Equal states have the same number, and different ones almost never do.
     pub(crate) number: u64,
     /// How many operations were ever performed, plus the steps that looks at states took.
@@ -40,10 +40,11 @@ impl<'a> State<'a> {
         alloc: Global,
         operations: &'a Operations,
         classes: &'a Classes,
-        cores: Vec<u32>,
+        cores: &'a [u32],
+        clocks: Option<&'a Clocks>,
     ) -> Tried<State<'a>> {
         let mut total = 0usize;
-        for core in &cores {
+        for core in cores {
             let own = operations
                 .end(*core)
                 .saturating_sub(at(&operations.starts, *core));
@@ -52,14 +53,14 @@ impl<'a> State<'a> {
         Ok(State {
             operations,
             classes,
-            touches: Touches::new(alloc, operations, &cores, classes.count())?,
+            touches: Touches::new(alloc, operations, cores, classes.count())?,
             cores,
             total,
             positions: operations.starts.to_vec(alloc)?,
             memory: classes.zeros.to_vec(alloc)?,
             order: Vec::new(alloc),
             found: Vec::new(alloc),
-            clocks: Vec::new(alloc),
+            clocks,
             number: 0,
             performed: 0,
         })
@@ -94,11 +95,12 @@ impl<'a> State<'a> {
         entries.any(|(entry, position)| entry > position && *entry != own)
     }
 
-    /// What is known to be before the operation at a place: a place for each core; empty if nothing is known.
+    /// The clock of the operation at a place; empty if nothing is known.
     fn clock(&self, place: Place) -> &[Place] {
-        let count = self.positions.len();
-        let row = (place as usize).wrapping_mul(count);
-        self.clocks.get(row..row.wrapping_add(count)).unwrap_or(&[])
+        match self.clocks {
+            Some(clocks) => clocks.of(place),
+            None => &[],
+        }
     }
 
     /// How many operations are still to be performed up to a core's at this place: those of its core, and those that are known to be before it.
@@ -162,9 +164,8 @@ impl<'a> State<'a> {
     /// Performs what leaves memory as it is, as long as it can: nothing is lost by that, and such operations needn't wait for what is known to be
     /// before them.
     pub(crate) fn settle(&mut self) -> Tried<()> {
-        for place in 0..self.cores.len() {
-            let core = self.cores.get(place).copied().unwrap_or(0);
-            self.settle_core(core)?;
+        for core in self.cores {
+            self.settle_core(*core)?;
         }
         Ok(())
     }

@@ -9,58 +9,55 @@ pub(crate) struct Touched {
     pub(crate) core: u32,
     pub(crate) last_read: Place,
     pub(crate) last_store: Place,
-    /// The number of the touch of the same class by another core, or NONE.
+    /// The number of the touch of the same class by the next core that touches it, or NONE.
     next: u32,
 }
 
-/// The cores that touch each class that is read.
+/// The cores that touch each class.
 #[derive(Drop)]
 pub(crate) struct Touches {
     all: Vec<Touched>,
-    /// For each class, the number of a touch of it, or NONE.
-    latest: Vec<u32>,
+    /// For each class, the number of the touch of it by the first core that touches it, or NONE.
+    firsts: Vec<u32>,
 }
 
 impl Touches {
-    /// Which of this many classes these cores touch, of those that they read.
+    /// Which of this many classes these cores touch.
     pub(crate) fn new(
         alloc: Global,
         operations: &Operations,
         cores: &[u32],
         classes: usize,
     ) -> Tried<Touches> {
-        let are_read = are_read(alloc, operations, cores, classes)?;
         let mut touches = Touches {
             all: Vec::new(alloc),
-            latest: vec![in alloc; NONE; classes]?,
+            firsts: vec![in alloc; NONE; classes]?,
         };
-        for core in cores {
-            touches.enter(operations, *core, &are_read)?;
+        for core in cores.iter().rev() {
+            touches.enter(operations, *core)?;
         }
         Ok(touches)
     }
 
-    /// Enters the classes that a core reads, and those of `are_read` that it stores.
-    fn enter(&mut self, operations: &Operations, core: u32, are_read: &[bool]) -> Tried<()> {
+    /// Enters the classes that a core touches.
+    fn enter(&mut self, operations: &Operations, core: u32) -> Tried<()> {
         for place in at(&operations.starts, core)..operations.end(core) {
             let operation = operations.get(place);
             if let Some(class) = operation.read() {
                 self.of_core(class, core)?.last_read = place;
             }
-            if let Some(class) = operation.stored()
-                && are_read.get(class as usize) == Some(&true)
-            {
+            if let Some(class) = operation.stored() {
                 self.of_core(class, core)?.last_store = place;
             }
         }
         Ok(())
     }
 
-    /// The touch of a class by the core that is entered now, after all others. It is made if there is none.
+    /// The touch of a class by the core that is entered now, after all that come behind it. It is made if there is none.
     fn of_core(&mut self, class: u32, core: u32) -> Tried<&mut Touched> {
-        let next = at(&self.latest, class);
-        if self.get(next).is_none_or(|last| last.core != core) {
-            put(&mut self.latest, class, short(self.all.len())?)?;
+        let next = at(&self.firsts, class);
+        if self.get(next).is_none_or(|first| first.core != core) {
+            put(&mut self.firsts, class, short(self.all.len())?)?;
             self.all.push(Touched {
                 core,
                 last_read: START,
@@ -68,8 +65,8 @@ impl Touches {
                 next,
             })?;
         }
-        let latest = at(&self.latest, class);
-        self.all.get_mut(latest as usize).ok_or(Stop::GivenUp)
+        let first = at(&self.firsts, class);
+        self.all.get_mut(first as usize).ok_or(Stop::GivenUp)
     }
 
     /// The touch of a number.
@@ -77,32 +74,28 @@ impl Touches {
         self.all.get(number as usize).copied()
     }
 
-    /// One touch of a class.
+    /// The touch of a class by the first core that touches it.
     pub(crate) fn first(&self, class: u32) -> Option<Touched> {
-        self.get(at(&self.latest, class))
+        self.get(at(&self.firsts, class))
     }
 
-    /// The touch of a class that comes after another.
+    /// The touch of a class by the next core that touches it.
     pub(crate) fn next(&self, touched: &Touched) -> Option<Touched> {
         self.get(touched.next)
     }
-}
 
-/// For each of this many classes, whether one of these cores reads it.
-fn are_read(
-    alloc: Global,
-    operations: &Operations,
-    cores: &[u32],
-    classes: usize,
-) -> Tried<Vec<bool>> {
-    let mut are_read = vec![in alloc; false; classes]?;
-    let places = cores.iter().flat_map(|core| at(&operations.starts, *core)..operations.end(*core));
-    for place in places {
-        if let Some(class) = operations.get(place).read()
-            && let Some(is_read) = are_read.get_mut(class as usize)
-        {
-            *is_read = true;
+    /// The first touch of a class that is such.
+    pub(crate) fn find<F: Fn(&Touched) -> bool>(&self, class: u32, is_such: F) -> Option<Touched>
+        requires { F.IsAlwaysCallable is_such }
+    {
+        let mut next = self.first(class);
+        for _ in 0..self.all.len() {
+            let touched = next?;
+            if is_such(&touched) {
+                return Some(touched);
+            }
+            next = self.next(&touched);
         }
+        None
     }
-    Ok(are_read)
 }

@@ -80,9 +80,9 @@ impl Tree {
             .ok_or(Stop::GivenUp)
     }
 
-    /// Whether no state is deeper than those of a depth.
-    pub(crate) fn is_deepest(&self, depth: u32) -> bool {
-        self.depth <= depth
+    /// Whether there is no state from which the walk can go on.
+    pub(crate) fn is_closed(&self) -> bool {
+        self.next.is_none() && self.halves.is_empty() && self.queue.is_empty()
     }
 
     /// Adds a state with this outlook, and gives its number.
@@ -116,8 +116,7 @@ impl Tree {
         let node = self.nodes.get_mut(number as usize).ok_or(Stop::GivenUp)?;
         node.is_half = true;
         let depth = node.depth;
-        let last = self.halves.last().copied();
-        if let Some(last) = last
+        if let Some(last) = self.halves.last().copied()
             && depth <= self.node(last)?.depth
         {
             let layer = self.layer_of(depth)?;

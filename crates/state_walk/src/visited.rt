@@ -9,8 +9,6 @@ pub(crate) struct Visited {
     alloc: Global,
     slots: Vec<u64>,
     count: usize,
-    /// Numbers that are new, and come into the table only when it is asked for one.
-    latest: Vec<u64>,
 }
 
 impl Visited {
@@ -20,27 +18,11 @@ impl Visited {
             alloc,
             slots: vec![in alloc; 0u64; 1024]?,
             count: 0,
-            latest: Vec::new(alloc),
         })
-    }
-
-    /// Adds a number that isn't there.
-    pub(crate) fn add(&mut self, number: u64) -> Tried<()> {
-        Ok(self.latest.push(number)?)
     }
 
     /// Adds a number. Says whether it wasn't there.
     pub(crate) fn insert(&mut self, number: u64) -> Tried<bool> {
-        for _ in 0..self.latest.len() {
-            if let Some(latest) = self.latest.pop() {
-                self.put(latest)?;
-            }
-        }
-        self.put(number)
-    }
-
-    /// Puts a number into the table. Says whether it wasn't there.
-    fn put(&mut self, number: u64) -> Tried<bool> {
         if self.count >= self.slots.len() / 4 * 3 {
             self.grow()?;
         }

@@ -1,28 +1,19 @@
 //! The walk.
 
-use super::outlook::EVEN;
+use super::clocks::Clocks;
 use super::state::State;
 use super::tree::{Node, Tree};
 use super::visited::Visited;
 use numbered_trace::{Budget, Classes, Operation, Operations, Place, SearchWatch, Tried, short};
 use std::alloc::Global;
-use std::mem::swap;
 
 /// How many nodes a tree has at most: this many, and `NODES_EACH` more for each operation.
 const NODES: usize = 4_000_000;
 
 const NODES_EACH: usize = 4;
 
-/// What a walk came to.
-#[derive(Clone, Copy, PartialEq, Eq)]
-pub enum Walked {
-    /// An order.
-    Order,
-    /// Every state that can be reached was visited, and in none of them were all operations performed.
-    Closed,
-    /// It may make no more steps, or keep no more states.
-    GivenUp,
-}
+/// How much harm a store counts that writes over a word which is still read, if it seems to do none.
+const MUCH: u32 = u32::MAX - 1;
 
 /// A walk over the states of the operations of some cores.
 #[derive(Drop)]
@@ -36,21 +27,19 @@ pub struct Walk<'a> {
     path: Vec<u32>,
     /// The node to which the most operations lead.
     deepest: u32,
-    /// Whether nearly every word is stored once.
-    are_distinct: bool,
 }
 
 impl<'a> Walk<'a> {
-    /// A walk over the states of these cores' operations. The cores share no address with others. The walk does better if it is told whether nearly
-    /// every word is stored once.
+    /// A walk over the states of these cores' operations, in which each comes after what is known to be before it. The cores share no address with
+    /// others.
     pub fn new(
         alloc: Global,
         operations: &'a Operations,
         classes: &'a Classes,
-        cores: Vec<u32>,
-        are_distinct: bool,
+        cores: &'a [u32],
+        clocks: Option<&'a Clocks>,
     ) -> Tried<Walk<'a>> {
-        let mut state = State::new(alloc, operations, classes, cores)?;
+        let mut state = State::new(alloc, operations, classes, cores, clocks)?;
         state.go_on()?;
         let mut visited = Visited::new(alloc)?;
         visited.insert(state.number)?;
@@ -61,7 +50,6 @@ impl<'a> Walk<'a> {
             visited,
             path: Vec::new(alloc),
             deepest: 0,
-            are_distinct,
         })
     }
 
@@ -70,9 +58,9 @@ impl<'a> Walk<'a> {
         &self.state.order
     }
 
-    /// The cores whose operations the walk performs.
-    pub fn cores(&self) -> &[u32] {
-        &self.state.cores
+    /// Whether every state that can be reached was visited.
+    pub fn is_closed(&self) -> bool {
+        self.tree.is_closed()
     }
 
     /// The numbers, sorted, of the addresses that each core touches by its next operations, at most this many, in the state to which the most
@@ -91,7 +79,7 @@ impl<'a> Walk<'a> {
     /// The numbers, sorted, of the addresses that each core touches by its next operations, at most this many.
     fn addresses_ahead(&self, alloc: Global, count: u32) -> Tried<Vec<u32>> {
         let mut addresses = Vec::new(alloc);
-        for core in &self.state.cores {
+        for core in self.state.cores {
             let ahead = self.state.ahead(*core, count).iter();
             addresses.extend(ahead.map(|operation| operation.address))?;
         }
@@ -100,16 +88,11 @@ impl<'a> Walk<'a> {
         Ok(addresses)
     }
 
-    /// Exchanges what is known to be before each operation: for each, one after the other, a place for each core. The list may be empty if nothing is
-    /// known.
-    pub fn exchange_clocks(&mut self, clocks: &mut Vec<Place>) {
-        swap(&mut self.state.clocks, clocks);
-    }
-
-    /// Walks until there is an order, or no state is left, or the budget is spent, or the tree is full. It can go on where it stopped.
-    pub fn run<W: SearchWatch>(&mut self, budget: &mut Budget, watch: &W) -> Tried<Walked> {
+    /// Walks until there is an order, or no state is left, or the budget is spent, or the tree is full. Says whether there is an order. The walk can
+    /// go on where it stopped.
+    pub fn run<W: SearchWatch>(&mut self, budget: &mut Budget, watch: &W) -> Tried<bool> {
         if self.state.is_final() {
-            return Ok(Walked::Order);
+            return Ok(true);
         }
         let each = self.state.total.saturating_mul(NODES_EACH);
         let most = each.saturating_add(NODES);
@@ -120,20 +103,16 @@ impl<'a> Walk<'a> {
             budget.tell(watch)?;
             let performed = self.state.performed;
             let Some(number) = self.tree.take()? else {
-                return Ok(Walked::Closed);
+                break;
             };
             self.go_to(number)?;
             if self.expand(number)? {
-                return Ok(Walked::Order);
+                return Ok(true);
             }
-            budget.use_up(
-                self.state
-                    .performed
-                    .saturating_sub(performed)
-                    .saturating_add(1),
-            );
+            let steps = self.state.performed.saturating_sub(performed);
+            budget.use_up(steps.saturating_add(1));
         }
-        Ok(Walked::GivenUp)
+        Ok(false)
     }
 
     /// Goes to the state of a node: back to where the ways part, and on from there.
@@ -191,9 +170,8 @@ impl<'a> Walk<'a> {
 
     /// Adds all children of a node.
     fn expand_all(&mut self, number: u32) -> Tried<bool> {
-        for place in 0..self.state.cores.len() {
-            let core = self.state.cores.get(place).copied().unwrap_or(0);
-            if self.state.able(core).is_some() && self.visit(number, core, false)? {
+        for core in self.state.cores {
+            if self.state.able(*core).is_some() && self.visit(number, *core, false)? {
                 return Ok(true);
             }
         }
@@ -204,7 +182,7 @@ impl<'a> Walk<'a> {
     fn likely(&self) -> Option<u32> {
         let mut likely = None;
         let mut least = u32::MAX;
-        for core in &self.state.cores {
+        for core in self.state.cores {
             if let Some(store) = self.state.able(*core)
                 && let Some(harm) = self.harm(*core, &store)
                 && harm < least
@@ -217,10 +195,9 @@ impl<'a> Walk<'a> {
 
     /// How much harm a core's next operation, a store, seems to do; None if that is too much for a first choice.
     fn harm(&self, core: u32, store: &Operation) -> Option<u32> {
-        if self.are_distinct {
-            self.state.hold(core, store)
-        } else {
-            self.state.seems_harmless(core, store).then_some(0)
+        match self.state.hold(core, store) {
+            None if self.state.seems_harmless(core, store) => Some(MUCH),
+            hold => hold,
         }
     }
 
@@ -233,8 +210,14 @@ impl<'a> Walk<'a> {
         if self.state.is_final() {
             return Ok(true);
         }
-        if self.is_new(depth, is_only)? && self.state.dead(ruined).is_none() {
-            let child = self.child(parent, core, depth)?;
+        if self.visited.insert(self.state.number)? && self.state.dead(ruined).is_none() {
+            let child = Node {
+                parent,
+                depth: depth.saturating_add(1),
+                length: short(self.state.order.len())?,
+                core: u8::try_from(core).unwrap_or(u8::MAX),
+                is_half: false,
+            };
             if self.tree.node(self.deepest)?.length < child.length {
                 self.deepest = short(self.tree.nodes.len())?;
             }
@@ -247,26 +230,5 @@ impl<'a> Walk<'a> {
         }
         self.state.undo(length as usize)?;
         Ok(false)
-    }
-
-    /// Notes that the state was visited. A store led to it from a state of this depth, the likeliest one or another. Says whether the state is new;
-    /// it is if the likeliest store led deeper than all others.
-    fn is_new(&mut self, depth: u32, is_likeliest: bool) -> Tried<bool> {
-        if is_likeliest && self.tree.is_deepest(depth) {
-            self.visited.add(self.state.number)?;
-            return Ok(true);
-        }
-        self.visited.insert(self.state.number)
-    }
-
-    /// The node of the state where the walk is, to which a core's store leads from its parent.
-    fn child(&self, parent: u32, core: u32, depth: u32) -> Tried<Node> {
-        Ok(Node {
-            parent,
-            depth: depth.saturating_add(1),
-            length: short(self.state.order.len())?,
-            core: u8::try_from(core).unwrap_or(u8::MAX),
-            is_half: false,
-        })
     }
 }

@@ -5,14 +5,14 @@ use std::alloc::Global;
 
 /// For each operation and each core, a place: the core's operations below it are before the operation, or are the operation itself.
 #[derive(Drop)]
-pub(crate) struct Clocks {
+pub struct Clocks {
     cores: u32,
     entries: Vec<Place>,
 }
 
 impl Clocks {
     /// Clocks that know nothing but program order, and that START comes first.
-    pub(crate) fn new(alloc: Global, operations: &Operations) -> Tried<Clocks> {
+    pub fn new(alloc: Global, operations: &Operations) -> Tried<Clocks> {
         let cores = operations.cores().end;
         let length = operations.all.len().saturating_mul(cores as usize);
         let mut entries = Vec::with_capacity(alloc, length)?;
@@ -30,19 +30,19 @@ impl Clocks {
     }
 
     /// The entry of an operation for a core.
-    pub(crate) fn entry(&self, place: Place, core: u32) -> Place {
+    pub fn entry(&self, place: Place, core: u32) -> Place {
         at(self.of(place), core)
     }
 
     /// The clock of an operation.
-    pub(crate) fn of(&self, place: Place) -> &[Place] {
+    pub fn of(&self, place: Place) -> &[Place] {
         let row = self.row(place);
         let end = row.saturating_add(self.cores as usize);
         self.entries.get(row..end).unwrap_or(&[])
     }
 
     /// Puts one operation, and what is before it, before another. Gives the cores whose entries rose.
-    pub(crate) fn join(&mut self, earlier: Place, later: Place) -> Tried<CoreSet> {
+    pub fn join(&mut self, earlier: Place, later: Place) -> Tried<CoreSet> {
         let (from, to) = (self.row(earlier), self.row(later));
         let mut risen = CoreSet::NONE;
         for core in 0..self.cores {
@@ -56,10 +56,5 @@ impl Clocks {
             }
         }
         Ok(risen)
-    }
-
-    /// The entries of all operations, one after the other.
-    pub(crate) fn into_entries(self) -> Vec<Place> {
-        self.entries
     }
 }
