@@ -9,7 +9,7 @@ use host_files::Folder;
 use litmus_test::LitmusFault;
 use log_file::{ByteSink, FormatFault, write_all};
 use std::alloc::{AllocError, Global};
-use telling::{CertificateTelling, Kind, Place, Refused, Telling};
+use telling::{Kind, Place, Refused, Telling};
 use trace::{Trace, TraceFault};
 use verdict::Count;
 
@@ -130,9 +130,11 @@ fn certificate_text(
         file: refused.name,
         line: refused.line,
     };
-    let telling = CertificateTelling {
+    let telling = Telling {
         place,
-        read: read.as_ref().map(|read| (&read.0, read.1.as_slice())),
+        read: read
+            .as_ref()
+            .map(|read| (Refused::BadCertificate(&read.0), read.1.as_slice())),
     };
     telling.print(alloc)
 }
@@ -141,13 +143,12 @@ fn certificate_text(
 fn fault_text(
     alloc: Global,
     place: Place<'_>,
-    refused: Refused,
+    refused: Refused<'_>,
     bytes: Option<Vec<u8>>,
 ) -> Result<String, AllocError> {
     let telling = Telling {
         place,
-        refused,
-        bytes: bytes.as_ref().map(|bytes| bytes.as_slice()),
+        read: bytes.as_ref().map(|bytes| (refused, bytes.as_slice())),
     };
     telling.print(alloc)
 }

@@ -4,5 +4,3 @@ pub mod Drawing
 pub mod Examining
 pub mod Finding
 pub mod RightStores
-pub mod Shifts
-pub mod Stores

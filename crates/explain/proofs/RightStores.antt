@@ -1,31 +1,56 @@
--- The last store before a load in its group is its right store among all.
-use Rattle.std.specs.Prelude.{◌≡◌, ℕ, ◌==◌, cond, List, take, refl, Option, Some, None, slice_get}
-use Rattle.std.proofs.Common.{sym, ◌∙◌, ap, get_or}
-use Rattle.line_stamps.specs.Ordered.{IsGreatest}
-use Rattle.line_stamps.proofs.Ordered.{In-take, In-filter, Ascends-take, last_is_greatest}
+-- The last store before an operation in its group is its right store among all.
+use Rattle.std.proofs.Common.{◌≡◌, ◌∙◌, true, cond, ◌==◌, List, [], ◌∷◌, Option, Some, None, find, filter, reverse, refl, sym, ap, subst, inl, inr, arith, Less, is_lt}
+use Rattle.std.specs.Prelude.{Bool, false, ◌&&◌, not}
+use Rattle.std.specs.Option.{is_none, option_map_or, option_or}
+use Rattle.std.specs.Ordering.{flip_args}
+use Rattle.std.proofs.lemmas.Bool.{cases_Bool}
+use Rattle.std.proofs.lemmas.Bool.Decides.{nat_tests}
+use Rattle.std.proofs.lemmas.Cmp.{back_total}
+use Rattle.std.proofs.lemmas.List.{reverse-append}
+use Rattle.std.proofs.lemmas.List.Folds.{find-append}
+use Rattle.line_stamps.specs.Ordered.{Ascends, IsGreatest, IsLeastIn}
+use Rattle.line_stamps.proofs.Ordered.{In-filter, last_is_greatest, least_is}
 use Rattle.log_record.specs.declared.record.Entry.{Entry}
-use Rattle.address_check.specs.AddressFaults.{right_store}
-use Rattle.address_check.specs.Groups.{place_cmp, AscendsByPlace, IsGroup, at_address}
-use Rattle.address_check.specs.LastStores.{is_store_entry, last_store, at_its_address}
+use Rattle.log_record.specs.Entries.{entry_cmp}
+use Rattle.address_check.specs.AddressFaults.{is_earlier_store, latest, right_store}
+use Rattle.address_check.specs.Groups.{IsGroup, at_address}
 use Rattle.address_check.proofs.ByAddress.{right_in_group}
-use Rattle.address_check.proofs.StorePass.{places_ascend, right_is_last as right_is_last_in}
-use Rattle.address_check.proofs.Totals.{place_total}
-use Rattle.address_check.proofs.Window.{by_key}
+use Rattle.address_check.proofs.Pairs.{EachPair-from_all, EachPair-weaken}
+use Rattle.address_check.proofs.Totals.{entry_total}
+use Rattle.explain.specs.Times.{is_right_earlier, rule_with}
 
-module _ (es : List Entry) (k : ℕ) (load : Entry) (is : IsGroup (at_address load.logged.addr es)) where
-  abbrev group : List Entry
-  group = at_address load.logged.addr es
+-- of entries that ascend by key, the one with the greatest key that passes a test is the last one that does
+last_passing : (p : Entry → Bool) (es : List Entry) → Ascends entry_cmp es → latest (filter p es) ≡ find p (reverse es)
+last_passing p [] up = refl
+last_passing p (x ∷ xs) up =
+    go (find p (reverse xs)) (last_is_greatest entry_cmp entry_total p xs up.1) (filter p xs) (last_passing p xs up.1)
+    ∙ sym (ap (find p) (reverse-append (x ∷ []) xs) ∙ find-append p (reverse xs) (x ∷ []))
+  where
+    go : (r : Option Entry) → IsGreatest entry_cmp p xs r → (fs : List Entry) → latest fs ≡ r → latest (cond (p x) (x ∷ fs) fs) ≡ option_or r (cond (p x) (Some x) None)
+    go None n fs is = elim (cases_Bool (p x)) [ inl t ↦ rw (t, is) refl | inr f ↦ rw f is ]
+    go (Some s) n fs is = elim (cases_Bool (p x)) [ inl t ↦ rw (t, is, up.0 s n.0) refl | inr f ↦ rw f is ]
 
-  pub up : AscendsByPlace group
-  up i j d p q = by_key (get_or group i d) (get_or group j d) (is.one_address i j d p q) ∙ is.ascends i j d p q
+pub right_is_last : (group : List Entry) (e : Entry) → IsGroup group → find (is_earlier_store e) (reverse group) ≡ right_store group e
+right_is_last group e is =
+    sym (last_passing (is_earlier_store e) group (EachPair-weaken (λ x y. entry_cmp x y ≡ Less) (λ x y. is_lt (entry_cmp x y) ≡ true) group (λ x y less. ap is_lt less)
+    (EachPair-from_all (λ x y. entry_cmp x y ≡ Less) group is.ascends)))
 
-  -- all stores of the group are at the load's address
-  at_home : (r : Option Entry) → IsGreatest place_cmp is_store_entry (take k group) r → r ≡ at_its_address load r
-  at_home None n = refl
-  at_home (Some s) n = ap (λ b. cond b (Some s) None) (sym (In-filter (λ e. e.logged.addr == load.logged.addr) es s (In-take s k group n.0)).1)
+-- whether a load would be right just before that store is told by the records of its address
+pub earlier_in_group : (es : List Entry) (load : Entry) → is_right_earlier (at_address load.logged.addr es) load ≡ is_right_earlier es load
+earlier_in_group es load = rw (right_in_group es load.logged.addr load refl) (go (right_store es load) refl)
+  where
+    group : List Entry
+    group = at_address load.logged.addr es
 
-  pub right_is_last : slice_get group k ≡ Some load → last_store (take k group) ≡ right_store es load
-  right_is_last at =
-      at_home (last_store (take k group)) (last_is_greatest place_cmp place_total is_store_entry (take k group) (Ascends-take place_cmp place_total k group (places_ascend group up)))
-      ∙ sym (right_is_last_in group k load up at)
-      ∙ right_in_group es load.logged.addr load refl
+    same_address : (s : Entry) → right_store es load ≡ Some s → s.logged.addr ≡ load.logged.addr
+    same_address s is =
+        let least : IsLeastIn (flip_args entry_cmp) (filter (is_earlier_store load) es) (Some s) =
+        subst (IsLeastIn (flip_args entry_cmp) (filter (is_earlier_store load) es)) is (least_is (flip_args entry_cmp) (back_total entry_total) (filter (is_earlier_store load) es)) in
+        let passes : is_earlier_store load s ≡ true = (In-filter (is_earlier_store load) es s least.0).1 in
+        grind (arith, nat_tests)
+
+    go : (r : Option Entry) → right_store es load ≡ r
+        → option_map_or (λ store. not (store.id.core == load.id.core) && is_none (rule_with load (right_store group store))) r false
+        ≡ option_map_or (λ store. not (store.id.core == load.id.core) && is_none (rule_with load (right_store es store))) r false
+    go None is = refl
+    go (Some s) is = ap (λ (o : Option Entry). not (s.id.core == load.id.core) && is_none (rule_with load o)) (right_in_group es load.logged.addr s (same_address s is))

@@ -1,4 +1,3 @@
 -- Definitions that serve private contracts alone.
 pub mod CoreFault
 pub mod CoreLog
-pub mod Shifts

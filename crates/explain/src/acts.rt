@@ -41,31 +41,6 @@ pub(crate) fn rule_with(entry: &Entry, store: Option<&Entry>) -> Option<AddressR
     }
 }
 
-/// How many operations there are of each kind.
-#[derive(Clone, Copy)]
-pub(crate) struct Counts {
-    pub(crate) loads: usize,
-    pub(crate) stores: usize,
-    pub(crate) swaps: usize,
-}
-
-/// How many of the operations are of each kind.
-pub(crate) fn count(entries: &[Entry]) -> Counts {
-    let mut counts = Counts {
-        loads: 0,
-        stores: 0,
-        swaps: 0,
-    };
-    for entry in entries {
-        match &entry.act() {
-            Act::Load(_) => counts.loads = counts.loads.saturating_add(1),
-            Act::Store => counts.stores = counts.stores.saturating_add(1),
-            Act::Swap(..) => counts.swaps = counts.swaps.saturating_add(1),
-        }
-    }
-    counts
-}
-
 /// The name of an operation's kind.
 pub fn kind_name(entry: &Entry) -> &'static str {
     match &entry.act() {
@@ -73,4 +48,12 @@ pub fn kind_name(entry: &Entry) -> &'static str {
         Act::Load(_) => "load",
         Act::Swap(..) => "swap",
     }
+}
+
+/// How many of the operations are of the kind of this name.
+pub(crate) fn count_of(entries: &[Entry], kind: &str) -> usize {
+    entries
+        .iter()
+        .filter(|entry| kind_name(entry) == kind)
+        .count()
 }

@@ -25,11 +25,9 @@ pub(crate) fn around(alloc: Global, entries: &[Entry], id: OpId) -> Result<Vec<E
 
 /// The last operation of a core among those of an address before a place.
 pub(crate) fn last_of_core(group: &[Entry], place: usize, core: CoreId) -> Option<Entry> {
-    let mut last = None;
-    for entry in group.iter().take(place) {
-        if entry.id().core == core {
-            last = Some(*entry);
-        }
-    }
-    last
+    let before = group.iter().take(place);
+    before
+        .filter(|entry| entry.id().core == core)
+        .last()
+        .copied()
 }

@@ -5,7 +5,7 @@ ghost use Rattle.log_record.specs.Entries.{entry_cmp};
 ghost use Rattle.explain.specs.Explanations.{IsSummary};
 ghost use Rattle.explain.specs.Pictures.{most_drawn};
 
-use super::acts::count;
+use super::acts::count_of;
 use super::explanation::{Summary, Use};
 use address_check::AddressIndex;
 use line_stamps::Stamp;
@@ -16,49 +16,21 @@ use std::cmp::Reverse;
 /// The most operations that are drawn all at once.
 const MAX_DRAWN_OPERATIONS: usize = 200;
 
-/// How many stamps are counted one by one, at most, for each operation: the bytes of a stamp, since a count takes one.
-const MAX_COUNTS_PER_OPERATION: usize = 8;
-
 /// How many addresses an explanation names as the most used.
 const MOST_USED_ADDRESSES: usize = 5;
 
 /// How often each address is used, where the entries stand by address.
 pub(crate) fn uses(alloc: Global, entries: &[Entry]) -> Result<Vec<Use>, AllocError> {
     let mut uses = Vec::new(alloc);
-    let mut operations = 0usize;
-    for (place, entry) in entries.iter().enumerate() {
-        let addr = entry.addr();
-        operations = operations.saturating_add(1);
-        let next = entries.get(place + 1);
-        if !next.is_some_and(|next| next.addr() == addr) {
-            uses.push(Use { addr, operations })?;
-            operations = 0;
+    for group in entries.chunk_by(|one, other| one.addr() == other.addr()) {
+        if let Some(first) = group.first() {
+            uses.push(Use {
+                addr: first.addr(),
+                operations: group.len(),
+            })?;
         }
     }
     Ok(uses)
-}
-
-/// The least and the greatest stamp of the entries; none if there are no entries.
-fn range_of(entries: &[Entry]) -> Option<(Stamp, Stamp)> {
-    let first = entries.first()?.key().ts;
-    let mut range = (first, first);
-    for entry in entries {
-        let stamp = entry.key().ts;
-        range = (range.0.min(stamp), range.1.max(stamp));
-    }
-    Some(range)
-}
-
-/// How many entries have a stamp that no other has, if each stamp is less than `span` after the least.
-fn alone(alloc: Global, entries: &[Entry], least: Stamp, span: usize) -> Result<usize, AllocError> {
-    let mut times: Vec<u8> = vec![in alloc; 0; span]?;
-    for entry in entries {
-        let place = entry.key().ts.get().saturating_sub(least.get()) as usize;
-        if let Some(count) = times.get_mut(place) {
-            *count = count.saturating_add(1);
-        }
-    }
-    Ok(times.iter().filter(|count| **count == 1).count())
 }
 
 /// The stamps of the entries, ascending.
@@ -69,34 +41,19 @@ fn stamps(alloc: Global, entries: &[Entry]) -> Result<Vec<Stamp>, AllocError> {
 }
 
 /// How many of the stamps, which ascend, stand beside one that is the same.
-fn beside_the_same(stamps: &[Stamp]) -> usize {
+fn sharing(stamps: &[Stamp]) -> usize {
     let mut sharing = 0usize;
-    for place in 0..stamps.len() {
-        let earlier = place > 0 && stamps[place - 1] == stamps[place];
-        let later = place < stamps.len() - 1 && stamps[place + 1] == stamps[place];
-        if earlier || later {
-            sharing = sharing.saturating_add(1);
+    for same in stamps.chunk_by(|one, other| one == other) {
+        if same.len() > 1 {
+            sharing = sharing.saturating_add(same.len());
         }
     }
     sharing
 }
 
-/// How many entries have a stamp that another has too, if their stamps lie in this range. Stamps that lie close, as those of a
-/// machine do, are counted one by one, which takes no more memory than to sort them and less time.
-fn sharing(
-    alloc: Global,
-    entries: &[Entry],
-    range: &Option<(Stamp, Stamp)>,
-) -> Result<usize, AllocError> {
-    let Some((least, greatest)) = range else {
-        return Ok(0);
-    };
-    let span = greatest.get().saturating_sub(least.get()) as usize;
-    if span / MAX_COUNTS_PER_OPERATION < entries.len() {
-        let alone = alone(alloc, entries, *least, span.saturating_add(1))?;
-        return Ok(entries.len().saturating_sub(alone));
-    }
-    Ok(beside_the_same(stamps(alloc, entries)?.as_slice()))
+/// The least and the greatest of the stamps, which ascend; none if there are none.
+fn range_of(stamps: &[Stamp]) -> Option<(Stamp, Stamp)> {
+    Some((*stamps.first()?, *stamps.last()?))
 }
 
 /// These entries in the order of their keys. Err if there is no memory.
@@ -138,19 +95,17 @@ pub(crate) fn summary(
     ensures { IfOk result (IsSummary index.now) }
 {
     let entries = index.all();
-    let counts = count(entries);
     let uses = uses(alloc, entries)?;
-    let addresses = uses.len();
-    let stamps = range_of(entries);
+    let stamps = stamps(alloc, entries)?;
     Ok(Summary {
         cores,
-        loads: counts.loads,
-        stores: counts.stores,
-        swaps: counts.swaps,
-        addresses,
+        loads: count_of(entries, "load"),
+        stores: count_of(entries, "store"),
+        swaps: count_of(entries, "swap"),
+        addresses: uses.len(),
         most_used: most_used(uses)?,
-        stamps,
-        sharing: sharing(alloc, entries, &stamps)?,
+        stamps: range_of(stamps.as_slice()),
+        sharing: sharing(stamps.as_slice()),
         rows: rows(alloc, entries)?,
     })
 }

@@ -1,10 +1,10 @@
 //! What the times of a load that breaks a rule allow.
 
-ghost use Rattle.std.specs.Prelude.{◌≡◌, ◌<◌, ◌≤◌, ◌+◌, None, false, IfSome, IsNone, length, slice_get, take};
-ghost use Rattle.std.specs.Option.{is_none, option_map_or, option_copied};
-ghost use Rattle.address_check.specs.LastStores.{last_store};
-ghost use Rattle.explain.specs.inner.Shifts.{is_right_at};
-ghost use Rattle.explain.specs.Times.{is_right_later, is_tie, next_store, rule_with};
+ghost use Rattle.std.specs.Prelude.{◌≡◌, ◌<◌, length};
+ghost use Rattle.std.specs.Option.{is_none, option_copied};
+ghost use Rattle.address_check.specs.AddressFaults.{is_earlier_store, right_store};
+ghost use Rattle.address_check.specs.Groups.{IsGroup};
+ghost use Rattle.explain.specs.Times.{is_right_earlier, is_right_later, is_tie, next_store, rule_with};
 
 use super::acts::rule_with;
 use address_check::is_store;
@@ -26,17 +26,22 @@ pub(crate) fn is_right_with(load: &Entry, store: Option<&Entry>) -> bool
     rule_with(load, store).is_none()
 }
 
-/// The place of the last store before a place.
-pub(crate) fn store_before(group: &[Entry], place: usize) -> Option<usize>
-    requires { place ≤ length group.now }
-    ensures found { IfSome result (λ at. (at < place)
-        × (slice_get group.now at ≡ last_store (take place group.now))) }
-    ensures none { IsNone result → last_store (take place group.now) ≡ None }
+/// Whether an operation is a store to the address of another one that comes before that by key.
+fn is_earlier_store(other: &Entry, entry: &Entry) -> bool
+    ensures { result ≡ is_earlier_store other.now entry.now }
+{
+    is_store(entry) && entry.addr() == other.addr() && entry.key() < other.key()
+}
+
+/// The last store before an operation by key, among those of its address.
+pub(crate) fn right_store(group: &[Entry], entry: &Entry) -> Option<Entry>
+    requires { IsGroup group.now }
+    ensures { result ≡ right_store group.now entry.now }
 {
     let mut last = None;
-    for at in 0..place {
-        if is_store(&group[at]) {
-            last = Some(at);
+    for store in group {
+        if is_earlier_store(entry, store) {
+            last = Some(*store);
         }
     }
     last
@@ -55,30 +60,18 @@ pub(crate) fn store_after(group: &[Entry], place: usize) -> Option<Entry>
     None
 }
 
-/// Whether a load breaks no rule just before the store at a place, if another core made it.
-fn is_right_at(group: &[Entry], load: &Entry, place: usize) -> bool
-    requires { place < length group.now }
-    ensures { result ≡ is_right_at group.now load.now place }
+/// Whether a load breaks no rule just before the store that it should read, which is this one if there is one, and which another core
+/// made.
+pub(crate) fn is_right_before(group: &[Entry], load: &Entry, right: &Option<Entry>) -> bool
+    requires group { IsGroup group.now }
+    requires right { right.now ≡ right_store group.now load.now }
+    ensures { result ≡ is_right_earlier group.now load.now }
 {
-    if group[place].id().core == load.id().core {
+    let Some(right) = right else {
         return false;
-    }
-    match store_before(group, place) {
-        Some(at) => is_right_with(load, Some(&group[at])),
-        None => is_right_with(load, None),
-    }
-}
-
-/// Whether a load breaks no rule just before the store that it should read, which stands at this place if there is one, and
-/// which another core made.
-pub(crate) fn is_right_before(group: &[Entry], load: &Entry, right: Option<usize>) -> bool
-    requires { IfSome right (λ place. place < length group.now) }
-    ensures { result ≡ option_map_or (is_right_at group.now load.now) right false }
-{
-    match right {
-        Some(place) => is_right_at(group, load, place),
-        None => false,
-    }
+    };
+    let before = right_store(group, right);
+    right.id().core != load.id().core && is_right_with(load, before.as_ref())
 }
 
 /// Whether a load breaks no rule just after the store that comes next, if another core made it.

@@ -11,7 +11,7 @@ use super::context::{around, last_of_core};
 use super::culprit::{culprit, same_word};
 use super::explanation::WrongRead;
 use super::faults::fault_counts;
-use super::times::{is_right_after, is_right_before, store_after, store_before};
+use super::times::{is_right_after, is_right_before, right_store, store_after};
 use address_check::AddressIndex;
 use log_record::Entry;
 use mem_op::OpId;
@@ -59,13 +59,6 @@ fn named(entries: &[Entry], load: &Entry) -> Option<Entry>
     }
 }
 
-/// The entry at a place, if there is a place.
-fn entry_at(entries: &[Entry], place: Option<usize>) -> Option<Entry>
-    ensures { result ≡ option_and_then (slice_get entries.now) place }
-{
-    entries.get(place?).copied()
-}
-
 /// What a core did around an operation, if there is one.
 fn rows_of(
     alloc: Global,
@@ -96,8 +89,7 @@ pub(crate) fn wrong_read(
     let Some(place) = place_of(group, id) else {
         return Ok(None);
     };
-    let right_place = store_before(group, place);
-    let right = entry_at(group, right_place);
+    let right = right_store(group, &load);
     let next = store_after(group, place);
     let named = named(all, &load);
     Ok(Some(WrongRead {
@@ -109,7 +101,7 @@ pub(crate) fn wrong_read(
         same_word: same_word(group, place, &load),
         rows: entries_around(alloc, group, place)?,
         place: place - start_of(place),
-        is_right_earlier: is_right_before(group, &load, right_place),
+        is_right_earlier: is_right_before(group, &load, &right),
         next,
         is_right_later: is_right_after(&load, &next),
         own_last: last_of_core(group, place, id.core),

@@ -2,7 +2,7 @@
 
 use super::scene::{Arrow, Kind};
 use mem_op::{OpId, Word};
-use refutation::{Point, Step};
+use refutation::{Point, Step, is_up_to};
 use refuted_cases::{Hop, Link, link_at};
 use std::alloc::{AllocError, Global};
 use std::fmt;
@@ -188,25 +188,11 @@ pub(crate) fn program_arrows(
 
 /// Whether the way round goes by program order from an operation, or one before it, to another or one after it.
 fn goes_by(round: &[Hop], earlier: &OpId, later: &OpId) -> bool {
+    let (earlier, later) = (Point::At(*earlier), Point::At(*later));
     round.iter().any(|hop| {
-        hop.by_program && is_up_to(&hop.from, earlier) && is_down_to(&hop.to, later)
+        let is_told = hop.by_program && hop.from != Point::Init;
+        is_told && is_up_to(&hop.from, &earlier) && is_up_to(&later, &hop.to)
     })
-}
-
-/// Whether a point is an operation, or one before it in its core.
-fn is_up_to(point: &Point, id: &OpId) -> bool {
-    match point {
-        Point::Init => false,
-        Point::At(other) => other.core == id.core && other.index <= id.index,
-    }
-}
-
-/// Whether a point is an operation, or one after it in its core.
-fn is_down_to(point: &Point, id: &OpId) -> bool {
-    match point {
-        Point::Init => false,
-        Point::At(other) => other.core == id.core && id.index <= other.index,
-    }
 }
 
 /// Marks the facts of a path as needed.

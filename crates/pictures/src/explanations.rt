@@ -109,23 +109,12 @@ fn arrows(alloc: Global, shown: &Shown, why: &Explanation) -> Result<Vec<Arrow>,
     if let Explanation::Load(found) = why {
         push_pointed(&mut arrows, rows, found)?;
     }
-    match shown.wanted {
-        Some(Wanted::Right(id)) => push_arrow(
-            &mut arrows,
-            rows,
-            Kind::Right,
-            shown.faulty,
-            Some(id),
-        ),
-        Some(Wanted::Before(id)) => push_arrow(
-            &mut arrows,
-            rows,
-            Kind::Before,
-            shown.faulty,
-            Some(id),
-        ),
-        None => Ok(()),
-    }?;
+    let (kind, wanted) = match shown.wanted {
+        Some(Wanted::Right(id)) => (Kind::Right, Some(id)),
+        Some(Wanted::Before(id)) => (Kind::Before, Some(id)),
+        None => (Kind::Right, None),
+    };
+    push_arrow(&mut arrows, rows, kind, shown.faulty, wanted)?;
     arrows.sort_unstable_by_key(|arrow| arrow.length());
     Ok(arrows)
 }

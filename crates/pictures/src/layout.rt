@@ -110,22 +110,16 @@ fn share(widths: &[usize; 64], around: usize) -> usize {
 
 /// How wide the longest note is, with the gap beside it; 0 if there is none.
 fn note_width(scene: &Scene<'_>) -> usize {
-    let mut longest = 0;
-    for card in &scene.cards {
-        longest = card.note.len().max(longest);
+    match scene.cards.iter().map(|card| card.note.len()).max() {
+        Some(longest) if longest > 0 => longest.saturating_mul(NOTE_LETTER).saturating_add(GAP),
+        _ => 0,
     }
-    if longest == 0 {
-        return 0;
-    }
-    longest.saturating_mul(NOTE_LETTER).saturating_add(GAP)
 }
 
 /// How wide the longest line above the boxes is.
 fn line_width(scene: &Scene<'_>) -> usize {
-    let mut longest = scene.title.len();
-    for line in &scene.caption {
-        longest = line.len().max(longest);
-    }
+    let longest = scene.caption.iter().map(|line| line.len()).max();
+    let longest = longest.unwrap_or(0).max(scene.title.len());
     longest.saturating_mul(NOTE_LETTER).saturating_add(MARGIN)
 }
 
@@ -167,22 +161,15 @@ fn lanes_of(
 }
 
 /// The greatest of the numbers from one place to another, both included.
-fn greatest(numbers: &[usize], span: (usize, usize)) -> usize {
-    let mut greatest = 0;
-    for (place, number) in numbers.iter().enumerate() {
-        if span.0 <= place && place <= span.1 {
-            greatest = greatest.max(*number);
-        }
-    }
-    greatest
+fn greatest(numbers: &[usize], (first, last): (usize, usize)) -> usize {
+    let within = numbers.iter().take(last.saturating_add(1)).skip(first);
+    within.copied().max().unwrap_or(0)
 }
 
 /// Sets the numbers from one place to another, both included.
-fn set_all(numbers: &mut Vec<usize>, span: (usize, usize), number: usize) {
-    for (place, there) in numbers.iter_mut().enumerate() {
-        if span.0 <= place && place <= span.1 {
-            *there = number;
-        }
+fn set_all(numbers: &mut Vec<usize>, (first, last): (usize, usize), number: usize) {
+    for there in numbers.iter_mut().take(last.saturating_add(1)).skip(first) {
+        *there = number;
     }
 }
 

@@ -11,49 +11,31 @@ pub(crate) fn rows_of(
 ) -> Result<Vec<usize>, AllocError> {
     // An operation without a row has the number after the last row.
     let mut rows = vec![in alloc; count; count]?;
-    let mut waits = waits_of(alloc, count, arrows)?;
     for row in 0..count {
-        let next = next(&rows, &waits);
+        let next = next(&rows, arrows);
         if let Some(there) = rows.get_mut(next) {
             *there = row;
         }
-        release(&mut waits, next, arrows);
     }
     Ok(rows)
 }
 
-/// How many arrows come to each operation.
-fn waits_of(alloc: Global, count: usize, arrows: &[Arrow]) -> Result<Vec<usize>, AllocError> {
-    let mut waits = vec![in alloc; 0usize; count]?;
-    for arrow in arrows {
-        if let Some(count) = waits.get_mut(arrow.to) {
-            *count = count.saturating_add(1);
-        }
-    }
-    Ok(waits)
-}
-
-/// No longer counts the arrows that come from an operation.
-fn release(waits: &mut Vec<usize>, from: usize, arrows: &[Arrow]) {
-    for arrow in arrows {
-        if arrow.from == from
-            && let Some(count) = waits.get_mut(arrow.to)
-        {
-            *count = count.saturating_sub(1);
-        }
-    }
-}
-
-/// The first operation without a row to which no arrow comes from others; if there is none, the first without a row.
-fn next(rows: &[usize], waits: &[usize]) -> usize {
+/// The first operation without a row to which no arrow comes from one without a row; if there is none, the first without a row.
+fn next(rows: &[usize], arrows: &[Arrow]) -> usize {
     let mut first = rows.len();
     for (place, row) in rows.iter().enumerate() {
         if *row == rows.len() {
-            if waits.get(place) == Some(&0) {
+            if !waits(rows, arrows, place) {
                 return place;
             }
             first = first.min(place);
         }
     }
     first
+}
+
+/// Whether an arrow comes to an operation from one without a row.
+fn waits(rows: &[usize], arrows: &[Arrow], place: usize) -> bool {
+    let none = rows.len();
+    arrows.iter().any(|arrow| arrow.to == place && rows.get(arrow.from) == Some(&none))
 }

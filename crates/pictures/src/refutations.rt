@@ -9,7 +9,7 @@ use super::painting::paint;
 use super::scene::{Arrow, Card, Kind, Scene};
 use mem_op::{CoreId, OpId};
 use refutation::{Point, Refutation, Step};
-use refuted_cases::{Course, Link, Stand, Walk, closes, round, stands};
+use refuted_cases::{Course, Givers, Stand, Walk, closes, round, stands};
 use std::alloc::{AllocError, Global};
 use std::fmt;
 use trace::{Access, Trace};
@@ -247,29 +247,12 @@ impl<'a> fmt::Display for ShownAccess<'a> {
             return f.write_str("nothing");
         };
         let (addr, left) = (access.addr(), access.word_left());
-        let Some(read) = access.read() else {
-            return write!(f, "M[{addr}] := {left}");
-        };
-        write!(f, "M[{addr}] == {read}")?;
-        match access.is_store_to(addr) {
-            true => write!(f, "; M[{addr}] := {left}"),
-            false => Ok(()),
-        }
-    }
-}
-
-/// Which operation gave a read its word, or which ones may have.
-#[derive(Clone, Copy)]
-struct Givers<'a>(&'a Link);
-
-impl<'a> fmt::Display for Givers<'a> {
-    fn fmt<W: fmt::Write>(&self, f: &mut fmt::Formatter<W>) -> fmt::Result {
-        let (first, last) = (self.0.earlier, self.0.last);
-        match first {
-            Point::Init if first == last => f.write_str("the initial 0"),
-            Point::Init => write!(f, "the initial 0 or one up to {last}"),
-            Point::At(_) if first == last => write!(f, "{first}"),
-            Point::At(_) => write!(f, "one of {first} to {last}"),
+        match access.read() {
+            None => write!(f, "M[{addr}] := {left}"),
+            Some(read) if access.is_store_to(addr) => {
+                write!(f, "M[{addr}] == {read}; M[{addr}] := {left}")
+            }
+            Some(read) => write!(f, "M[{addr}] == {read}"),
         }
     }
 }
@@ -283,7 +266,8 @@ impl<'a> fmt::Display for Assumed<'a> {
         let mut between = ", where ";
         for fact in self.0.facts {
             if self.0.is_assumed(fact) {
-                write!(f, "{between}{} gave {} its word", Givers(fact), fact.later)?;
+                let givers = Givers(fact.earlier, fact.last);
+                write!(f, "{between}{givers} gave {} its word", fact.later)?;
                 between = " and ";
             }
         }

@@ -20,7 +20,7 @@ pub(crate) struct Reading {
 }
 
 /// Whether a point lies in one of the ranges.
-fn lies_in(ranges: &[Range], point: &Point) -> bool
+pub fn lies_in(ranges: &[Range], point: &Point) -> bool
     ensures { result ≡ list_any (λ range. is_in range point.now) ranges.now }
 {
     ranges.iter().any(|range| is_up_to(&range.first, point) && is_up_to(point, &range.last))

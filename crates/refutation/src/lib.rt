@@ -24,8 +24,11 @@ mod step;
 mod text;
 
 pub use answer::{Answer, confirm};
+pub use covering::lies_in;
 pub use fault::CertificateFault;
 pub use laws::{complete, one_fault, refutations_hold, spelled_is_read};
+pub use moves::{next_operation, number_of, put_word, settle, was_performed, word_of};
+pub use path::is_up_to;
 pub use refuting::{first_wrong_step, refutes};
 pub use state::{Numbers, State, StateSet};
 pub use step::{Path, Point, Range, Ranges, Refutation, Step};

@@ -38,9 +38,9 @@ fn set(numbers: &mut Vec<u64>, place: usize, number: u64)
     }
 }
 
-/// The word at an address, if it is an address of the set.
+/// The word at an address, if it is an address of the set: the addresses and their words stand in one order.
 #[tactic(auto, using(crate::proofs::Settled::word_by_slot))]
-pub(crate) fn word_of(addresses: &[Address], words: &[Word], addr: Address) -> Option<Word>
+pub fn word_of(addresses: &[Address], words: &[Word], addr: Address) -> Option<Word>
     ensures { result ≡ word_of addresses.now words.now addr }
 {
     match slot_of(addresses, addr) {
@@ -49,9 +49,9 @@ pub(crate) fn word_of(addresses: &[Address], words: &[Word], addr: Address) -> O
     }
 }
 
-/// The words, after one is put at an address.
+/// The words at these addresses, after one is put at an address; as they were if that isn't one of them. Err if memory was refused.
 #[tactic(auto, using(crate::proofs::Settled::put_by_slot))]
-pub(crate) fn put_word(
+pub fn put_word(
     alloc: Global,
     addresses: &[Address],
     words: &[Word],
@@ -113,8 +113,8 @@ fn settled_index(operations: &[Access], from: u64, addresses: &[Address], words:
     index
 }
 
-/// For each core, the index of its next operation, once everything that passes is performed.
-pub(crate) fn settle(
+/// For each core, the index of its next operation, once everything that passes is performed. Err if memory was refused.
+pub fn settle(
     alloc: Global,
     trace: &Trace,
     addresses: &[Address],
@@ -132,14 +132,14 @@ pub(crate) fn settle(
 }
 
 /// The number of a core; 0 if there is none.
-pub(crate) fn number_of(numbers: &[u64], core: usize) -> u64
+pub fn number_of(numbers: &[u64], core: usize) -> u64
     ensures { result ≡ slice_index numbers.now core }
 {
     numbers.get(core).copied().unwrap_or(0)
 }
 
 /// The id of a core's operation at the index that the numbers give the core, and the operation; None if there is none.
-pub(crate) fn next_operation(trace: &Trace, numbers: &[u64], core: usize) -> Option<(OpId, Access)>
+pub fn next_operation(trace: &Trace, numbers: &[u64], core: usize) -> Option<(OpId, Access)>
     ensures { MatchOption result
         (operation_at trace.now (next_id numbers.now core) ≡ None)
         (λ found. (found.0 ≡ next_id numbers.now core) × (operation_at trace.now (next_id numbers.now core) ≡ Some found.1)) }
@@ -154,8 +154,8 @@ pub(crate) fn next_operation(trace: &Trace, numbers: &[u64], core: usize) -> Opt
     Some((id, trace.operation(&id)?))
 }
 
-/// Whether a point was performed.
-fn was_performed(next: &[u64], point: &Point) -> bool
+/// Whether a point was performed where these are the indices of the cores' next operations.
+pub fn was_performed(next: &[u64], point: &Point) -> bool
     ensures { result ≡ was_performed next.now point.now }
 {
     match point {

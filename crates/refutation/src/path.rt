@@ -6,8 +6,8 @@ ghost use Rattle.refutation.specs.Facts.{is_up_to, Leads, IsCycle};
 use super::fact::{Known, fact_at};
 use super::step::Point;
 
-/// Whether one point is another, or before it in program order.
-pub(crate) fn is_up_to(one: &Point, other: &Point) -> bool
+/// Whether one point is another, or before it in program order. `init` is before everything.
+pub fn is_up_to(one: &Point, other: &Point) -> bool
     ensures { result ≡ is_up_to one.now other.now }
 {
     match (one, other) {

@@ -1,8 +1,10 @@
-//! The cases of a refutation: what is known at each of its steps, and where the cores stand in a state.
+//! The cases of a refutation: what is known at each of its steps, where the cores stand in a state, and how points are named.
 #![tactic(auto)]
 
+mod naming;
 mod standing;
 mod walk;
 
-pub use standing::{Course, Stand, stands};
+pub use naming::{Givers, Named};
+pub use standing::{Course, Stand, awaited, stands};
 pub use walk::{Hop, Link, Walk, closes, hops, link_at, round};

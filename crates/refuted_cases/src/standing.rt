@@ -2,7 +2,7 @@
 
 use super::walk::Link;
 use mem_op::{CoreId, OpId, OpIndex, Word};
-use refutation::{Point, State, StateSet};
+use refutation::{Point, State, StateSet, next_operation, number_of, was_performed, word_of};
 use std::alloc::{AllocError, Global};
 use trace::{Access, Address, Trace};
 
@@ -94,59 +94,43 @@ impl<'a> Standing<'a> {
         core: usize,
         operations: &[Access],
     ) -> Result<(), AllocError> {
-        let Ok(core) = CoreId::new(core as u64) else {
+        let next = number_of(self.state.next(), core);
+        let first = operations.get(..next as usize).unwrap_or(operations);
+        let Ok(id) = CoreId::new(core as u64) else {
             return Ok(());
         };
-        if self.last_of(core, operations) == Point::Init {
-            return Ok(());
+        if self.last_of(id, operations) != Point::Init {
+            stands.push(Stand {
+                core: id,
+                next,
+                last: self.last_of(id, first),
+                course: self.course(core),
+            })?;
         }
-        let next = number_at(self.state.next(), core);
-        let first = operations.get(..next as usize).unwrap_or(operations);
-        let last = self.last_of(core, first);
-        let course = self.course(core, next);
-        stands.push(Stand {
-            core,
-            next,
-            last,
-            course,
-        })?;
         Ok(())
     }
 
-    /// How a core goes on whose next operation has this index.
-    fn course(&self, core: CoreId, next: u64) -> Course {
+    /// How a core goes on.
+    fn course(&self, core: usize) -> Course {
         match self.wait(core) {
             Some(course) => course,
-            None if self.operation(core, next).is_none() => Course::Done,
+            None if next_operation(self.trace, self.state.next(), core).is_none() => Course::Done,
             None => Course::Free,
         }
     }
 
     /// How a core waits, if it does; in a dead state it waits at its limit.
-    fn wait(&self, core: CoreId) -> Option<Course> {
-        let index = match self.state {
-            State::Open { next, .. } => number_at(next.as_slice(), core),
-            State::Dead { limits, .. } => number_at(limits.as_slice(), core),
+    fn wait(&self, core: usize) -> Option<Course> {
+        let numbers = match self.state {
+            State::Open { next, .. } => next.as_slice(),
+            State::Dead { limits, .. } => limits.as_slice(),
         };
-        let (id, access) = self.operation(core, index)?;
-        let word = self.word_at(access.addr())?;
+        let (id, access) = next_operation(self.trace, numbers, core)?;
+        let word = word_of(self.addresses, self.state.words(), access.addr())?;
         match access.read() {
             Some(read) if read != word => Some(Course::Seeks(id, word)),
-            _ => Some(Course::Awaits(id, self.awaited(&id)?)),
+            _ => Some(Course::Awaits(id, awaited(self.facts, self.state, &id)?)),
         }
-    }
-
-    /// The word at an address, if it is one of the addresses.
-    fn word_at(&self, addr: Address) -> Option<Word> {
-        let slot = self.addresses.iter().position(|other| *other == addr)?;
-        self.state.words().get(slot).copied()
-    }
-
-    /// The operation of a core of this index.
-    fn operation(&self, core: CoreId, index: u64) -> Option<(OpId, Access)> {
-        let index = OpIndex::new(index).ok()?;
-        let id = OpId { core, index };
-        Some((id, self.trace.operation(&id)?))
     }
 
     /// The last of a core's first operations that is at one of the addresses; `init` if there is none.
@@ -160,27 +144,14 @@ impl<'a> Standing<'a> {
         }
         Point::Init
     }
-
-    /// A point that isn't performed and comes before an operation, by a fact.
-    fn awaited(&self, id: &OpId) -> Option<Point> {
-        for fact in self.facts {
-            if fact.later == Point::At(*id) && !self.was_performed(&fact.earlier) {
-                return Some(fact.earlier);
-            }
-        }
-        None
-    }
-
-    /// Whether a point was performed.
-    fn was_performed(&self, point: &Point) -> bool {
-        match point {
-            Point::Init => true,
-            Point::At(id) => id.index.get() < number_at(self.state.next(), id.core),
-        }
-    }
 }
 
-/// The number of a core; 0 if there is none.
-fn number_at(numbers: &[u64], core: CoreId) -> u64 {
-    numbers.get(core.get() as usize).copied().unwrap_or(0)
+/// A point that isn't performed in a state and comes before an operation, by one of these facts; None if there is none.
+pub fn awaited(facts: &[Link], state: &State, id: &OpId) -> Option<Point> {
+    for fact in facts {
+        if fact.later == Point::At(*id) && !was_performed(state.next(), &fact.earlier) {
+            return Some(fact.earlier);
+        }
+    }
+    None
 }

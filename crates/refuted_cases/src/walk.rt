@@ -93,11 +93,11 @@ impl Walk {
         match step {
             Step::Read { read, ranges } => self.give_sources(read, ranges.as_slice(), depth),
             Step::FromRead { source, write, .. } => {
-                let (read, write) = (self.link(*source).later, Point::At(*write));
+                let (read, write) = (link_at(&self.facts, *source).later, Point::At(*write));
                 self.wait(&read, &write, &write, depth)
             }
             Step::WriteOrder { source, write, .. } => {
-                let (write, last) = (Point::At(*write), self.link(*source).last);
+                let (write, last) = (Point::At(*write), link_at(&self.facts, *source).last);
                 self.wait(&write, &last, &last, depth)
             }
             Step::Cycle { .. } | Step::States { .. } => Ok(()),
@@ -116,11 +116,6 @@ impl Walk {
             self.wait(&range.first, &read, &range.last, depth)?;
         }
         Ok(())
-    }
-
-    /// The fact in force of a number.
-    fn link(&self, number: usize) -> Link {
-        link_at(&self.facts, number)
     }
 
     /// Adds a waiting case whose fact the next step gives.

@@ -4,10 +4,12 @@ ghost use Rattle.std.specs.Prelude.{◌≡◌, ◌++◌, ◌<◌, ◌≤◌, ◌
 ghost use Rattle.decimal_text.specs.Numbers.{numeral};
 ghost use Rattle.telling.specs.FirstLines.{first_line, operation_count, IsGrown, SaysNo};
 
-use super::shown::{Counted, Deed, Joined, Number, Shown, Stored, Within, Written, between};
+use super::shown::{Counted, Deed, Joined, Number, Stored, Written, between};
 use mem_op::{OpId, Word};
 use refutation::{Point, Range, Refutation, StateSet, Step};
-use refuted_cases::{Course, Hop, Link, Stand, Walk, closes, hops, link_at, round, stands};
+use refuted_cases::{
+    Course, Givers, Hop, Link, Named, Stand, Walk, closes, hops, link_at, round, stands,
+};
 use std::alloc::{AllocError, Global};
 use trace::{Access, Address, Trace};
 
@@ -95,287 +97,303 @@ pub fn count_of(trace: &Trace) -> usize
 
 /// The steps of a refutation, line by line.
 fn argue(alloc: Global, trace: &Trace, refutation: &Refutation) -> Result<String, AllocError> {
-    let mut argument = Argument {
-        alloc,
-        trace,
-        text: String::new(alloc),
-        walk: Walk::new(alloc),
-        open: None,
-    };
-    argument.steps(refutation.steps())?;
-    Ok(argument.text)
+    let mut text = String::new(alloc);
+    push_steps(&mut text, alloc, trace, refutation.steps())?;
+    text.push('\n')?;
+    Ok(text)
 }
 
-/// An argument that is written.
-#[derive(Drop)]
+/// Adds what steps say, and each case that is taken up after one.
+fn push_steps(text: &mut String, alloc: Global, trace: &Trace, steps: &[Step]) -> Written {
+    let mut walk = Walk::new(alloc);
+    let mut open = None;
+    for step in steps {
+        open = push_step(text, alloc, trace, &walk, open, step)?;
+        if walk.follow(step)? {
+            push_case(text, &walk, if closes(step) { "or" } else { "either" })?;
+            open = None;
+        }
+    }
+    Ok(())
+}
+
+/// A line that tells where a read has its word from, and can go on with what follows: the number of that fact, and what comes between.
+type Open = Option<(usize, &'static str)>;
+
+/// Adds what a step says, where this line is open; the one that is open then.
+fn push_step(
+    text: &mut String,
+    alloc: Global,
+    trace: &Trace,
+    walk: &Walk,
+    open: Open,
+    step: &Step,
+) -> Result<Open, AllocError> {
+    let argument = Argument { alloc, trace, walk };
+    match step {
+        Step::Read { read, ranges } => argument.read(text, read, ranges.as_slice()),
+        Step::FromRead {
+            source,
+            write,
+            path,
+        } => argument.from_read(text, open, *source, write, path.as_slice()),
+        Step::WriteOrder {
+            source,
+            write,
+            path,
+        } => argument.write_order(text, open, *source, write, path.as_slice()),
+        Step::Cycle { path } => argument.cycle(text, path.as_slice()),
+        Step::States { addresses, set } => argument.states(text, addresses.as_slice(), set),
+    }
+}
+
+/// Begins a line in so many splits.
+fn push_line(text: &mut String, depth: usize) -> Written {
+    if !text.is_empty() {
+        text.push('\n')?;
+    }
+    for _ in 0..depth {
+        text.push_str("  ")?;
+    }
+    Ok(())
+}
+
+/// Adds the line of the case that is taken up.
+fn push_case(text: &mut String, walk: &Walk, word: &str) -> Written {
+    push_line(text, walk.depth().saturating_sub(1))?;
+    let facts = walk.facts();
+    let fact = link_at(facts, facts.len().saturating_sub(1));
+    let (given, later) = (Givers(fact.earlier, fact.last), Named(fact.later));
+    write!(text, "{word} {given} gave {later} its word")?;
+    match fact.earlier {
+        Point::Init => text.push_str(":"),
+        first => write!(text, ", so {first} comes before {later}:"),
+    }
+}
+
+/// What an argument stands on at a step: the trace, and what is known of an order.
+#[derive(Clone, Copy)]
 struct Argument<'a> {
     alloc: Global,
     trace: &'a Trace,
-    text: String,
-    walk: Walk,
-    /// Of a line that tells where a read has its word from, and can go on with what follows: the number of that fact, and what comes
-    /// between.
-    open: Option<(usize, &'static str)>,
+    walk: &'a Walk,
 }
 
 impl<'a> Argument<'a> {
-    /// Adds what steps say, and the end of the last line.
-    fn steps(&mut self, steps: &[Step]) -> Written {
-        for step in steps {
-            self.step(step)?;
-        }
-        self.text.push('\n')
-    }
-
-    /// Adds what a step says, and the case that is taken up after it.
-    fn step(&mut self, step: &Step) -> Written {
-        match step {
-            Step::Read { read, ranges } => self.read(read, ranges.as_slice()),
-            Step::FromRead {
-                source,
-                write,
-                path,
-            } => self.from_read(*source, write, path.as_slice()),
-            Step::WriteOrder {
-                source,
-                write,
-                path,
-            } => self.write_order(*source, write, path.as_slice()),
-            Step::Cycle { path } => self.cycle(path.as_slice()),
-            Step::States { addresses, set } => self.states(addresses.as_slice(), set),
-        }?;
-        if self.walk.follow(step)? {
-            self.case(if closes(step) { "or" } else { "either" })?;
-        }
-        Ok(())
-    }
-
     /// Begins a line of the case.
-    fn new_line(&mut self) -> Written {
-        let depth = self.walk.depth();
-        self.indent(depth)
-    }
-
-    /// Begins a line in so many splits.
-    fn indent(&mut self, depth: usize) -> Written {
-        self.open = None;
-        if !self.text.is_empty() {
-            self.text.push('\n')?;
-        }
-        for _ in 0..depth {
-            self.text.push_str("  ")?;
-        }
-        Ok(())
-    }
-
-    /// Adds the line of the case that is taken up.
-    fn case(&mut self, word: &str) -> Written {
-        let depth = self.walk.depth().saturating_sub(1);
-        self.indent(depth)?;
-        let facts = self.walk.facts();
-        let fact = link_at(facts, facts.len().saturating_sub(1));
-        let (given, later) = (Within(fact.earlier, fact.last), Shown(fact.later));
-        write!(self.text, "{word} {given} gave {later} its word")?;
-        match fact.earlier {
-            Point::Init => self.text.push_str(":"),
-            first => write!(self.text, ", so {first} comes before {later}:"),
-        }
+    fn new_line(&self, text: &mut String) -> Written {
+        push_line(text, self.walk.depth())
     }
 
     /// Adds a read that is looked at, what may give its word, and what it comes after where that is known.
-    fn read(&mut self, read: &OpId, ranges: &[Range]) -> Written {
-        self.new_line()?;
-        write!(self.text, "{}, which ", Deed(self.trace, *read))?;
+    fn read(&self, text: &mut String, read: &OpId, ranges: &[Range]) -> Result<Open, AllocError> {
+        self.new_line(text)?;
+        write!(text, "{}, which ", Deed(self.trace, *read))?;
         let [range] = ranges else {
-            return self.sources(ranges);
+            push_sources(text, ranges)?;
+            return Ok(None);
         };
-        write!(self.text, "only {} gives", Within(range.first, range.last))?;
-        let source = self.walk.facts().len();
-        self.open = Some((source, "; so "));
+        write!(text, "only {} gives", Givers(range.first, range.last))?;
+        let number = self.walk.facts().len();
         match range.first {
-            Point::Init => Ok(()),
+            Point::Init => Ok(Some((number, "; so "))),
             first => {
-                self.follows(source)?;
-                write!(self.text, "it comes after {first}")
+                write!(text, "; so it comes after {first}")?;
+                Ok(Some((number, ", and ")))
             }
         }
-    }
-
-    /// Adds that one of these ranges gives a read its word, or nothing does.
-    fn sources(&mut self, ranges: &[Range]) -> Written {
-        if ranges.is_empty() {
-            return self.text.push_str("nothing gives");
-        }
-        for (place, range) in ranges.iter().enumerate() {
-            let before = between(place, ranges.len(), " or ");
-            write!(self.text, "{before}{}", Within(range.first, range.last))?;
-        }
-        self.text.push_str(" gives")
     }
 
     /// Adds a read, and what gave it its word.
-    fn gave(&mut self, read: &OpId, link: &Link) -> Written {
-        write!(self.text, "{}, which ", Deed(self.trace, *read))?;
-        write!(self.text, "{} gave", Within(link.earlier, link.last))
+    fn gave(&self, text: &mut String, link: &Link) -> Written {
+        if let Point::At(read) = link.later {
+            let givers = Givers(link.earlier, link.last);
+            write!(text, "{}, which {givers} gave", Deed(self.trace, read))?;
+        }
+        text.push_str("; so ")
     }
 
-    /// Goes on with what follows from the source of a read, on the same line where that is open; and that source.
-    fn follows(&mut self, source: usize) -> Result<Link, AllocError> {
+    /// Goes on with what follows from the source of a read, on the line that is open if that is of this read; and that source.
+    fn follows(&self, text: &mut String, open: Open, source: usize) -> Result<Link, AllocError> {
         let link = link_at(self.walk.facts(), source);
-        let word = match (self.open, link.later) {
-            (Some((open, word)), _) if open == source => word,
-            (_, later) => {
-                self.new_line()?;
-                if let Point::At(read) = later {
-                    self.gave(&read, &link)?;
-                }
-                "; so "
+        match open {
+            Some((number, word)) if number == source => text.push_str(word),
+            _ => {
+                self.new_line(text)?;
+                self.gave(text, &link)
             }
-        };
-        self.open = Some((source, ", and "));
-        self.text.push_str(word)?;
+        }?;
         Ok(link)
     }
 
     /// Adds that a read comes before a write, to which the path leads from the last point of the read's source.
-    fn from_read(&mut self, source: usize, write: &OpId, path: &[usize]) -> Written {
-        let last = self.follows(source)?.last;
+    fn from_read(
+        &self,
+        text: &mut String,
+        open: Open,
+        source: usize,
+        write: &OpId,
+        path: &[usize],
+    ) -> Result<Open, AllocError> {
+        let last = self.follows(text, open, source)?.last;
         let (stored, write) = (Stored(self.trace.operation(write)), Point::At(*write));
-        write!(self.text, "it comes before {write}, which {stored}")?;
-        if last == Point::Init {
-            return Ok(());
+        write!(text, "it comes before {write}, which {stored}")?;
+        if last != Point::Init {
+            write!(text, " after {last}")?;
+            self.way(text, &last, path, &write)?;
         }
-        write!(self.text, " after {last}")?;
-        self.way(&last, path, &write)
+        Ok(Some((source, ", and ")))
     }
 
     /// Adds that a write, from which the path leads to the read, comes before the last point of the read's source.
-    fn write_order(&mut self, source: usize, write: &OpId, path: &[usize]) -> Written {
-        let link = self.follows(source)?;
+    fn write_order(
+        &self,
+        text: &mut String,
+        open: Open,
+        source: usize,
+        write: &OpId,
+        path: &[usize],
+    ) -> Result<Open, AllocError> {
+        let link = self.follows(text, open, source)?;
         let (stored, write) = (Stored(self.trace.operation(write)), Point::At(*write));
-        write!(self.text, "{write}, which {stored} before it")?;
-        self.way(&write, path, &link.later)?;
-        write!(self.text, ", comes before {}", Shown(link.last))
+        write!(text, "{write}, which {stored} before it")?;
+        self.way(text, &write, path, &link.later)?;
+        write!(text, ", comes before {}", Named(link.last))?;
+        Ok(Some((source, ", and ")))
     }
 
     /// Adds how a path leads on, if that isn't told before: by program order alone, or by which points.
-    fn way(&mut self, from: &Point, path: &[usize], to: &Point) -> Written {
+    fn way(&self, text: &mut String, from: &Point, path: &[usize], to: &Point) -> Written {
         let way = hops(self.alloc, self.walk.facts(), from, path, to)?;
-        match way.as_slice() {
-            [only] if only.by_program => self.text.push_str(" by program order"),
-            [] | [_] => Ok(()),
-            all => write!(self.text, " ({})", Joined(all, " before ")),
+        if way.len() > 1 {
+            write!(text, " ({})", Joined(way.as_slice(), " before "))
+        } else if way.iter().any(|hop| hop.by_program) {
+            text.push_str(" by program order")
+        } else {
+            Ok(())
         }
     }
 
-    /// Adds the cycle that closes a case: the points that go round, and which of them follow each other by program order.
-    fn cycle(&mut self, path: &[usize]) -> Written {
+    /// Adds the cycle that closes a case.
+    fn cycle(&self, text: &mut String, path: &[usize]) -> Result<Open, AllocError> {
         let round = round(self.alloc, self.walk.facts(), path)?;
-        self.new_line()?;
-        self.round(&round)
+        self.new_line(text)?;
+        push_round(text, &round)?;
+        Ok(None)
     }
 
-    /// Adds the points that go round.
-    fn round(&mut self, round: &[Hop]) -> Written {
-        write!(self.text, "but {} would go round", Joined(round, ", "))?;
-        let count = round.iter().filter(|hop| is_told(hop)).count();
-        if count == 0 {
-            return Ok(());
+    /// Adds the set of states that closes a case, and where the cores stand in the furthest of them, each on a line.
+    fn states(
+        &self,
+        text: &mut String,
+        addresses: &[Address],
+        set: &StateSet,
+    ) -> Result<Open, AllocError> {
+        self.new_line(text)?;
+        push_set(text, addresses, set.as_slice().len())?;
+        for stand in &stands(self.alloc, self.trace, self.walk.facts(), addresses, set)? {
+            push_line(text, self.walk.depth().saturating_add(1))?;
+            self.stand(text, stand)?;
         }
-        let (mut before, mut place) = (": ", 0usize);
-        for hop in round {
-            if is_told(hop) {
-                write!(self.text, "{before}{} before {}", hop.from, hop.to)?;
-                place = place.saturating_add(1);
-                before = between(place, count, " and ");
-            }
-        }
-        self.text.push_str(" by program order")
-    }
-
-    /// Adds the set of states that closes a case, and where the cores stand in the furthest of them.
-    fn states(&mut self, addresses: &[Address], set: &StateSet) -> Written {
-        self.new_line()?;
-        self.text.push_str("but no order of the operations at ")?;
-        self.addresses(addresses)?;
-        let count = set.as_slice().len();
-        let (count, s) = (
-            Counted(count as u64, "state"),
-            if count == 1 { "s" } else { "" },
-        );
-        write!(
-            self.text,
-            " comes to its end, as {count} show{s}; in the furthest one"
-        )?;
-        let stands = stands(self.alloc, self.trace, self.walk.facts(), addresses, set)?;
-        self.stands(&stands)
-    }
-
-    /// Adds where the cores stand, each on a line.
-    fn stands(&mut self, stands: &[Stand]) -> Written {
-        let depth = self.walk.depth().saturating_add(1);
-        for stand in stands {
-            self.indent(depth)?;
-            self.stand(stand)?;
-        }
-        Ok(())
-    }
-
-    /// Adds addresses, or how many there are.
-    fn addresses(&mut self, addresses: &[Address]) -> Written {
-        let count = addresses.len();
-        if count > MOST_ADDRESSES {
-            return write!(self.text, "{count} addresses");
-        }
-        let noun = if count == 1 { "address " } else { "addresses " };
-        self.text.push_str(noun)?;
-        for (place, addr) in addresses.iter().enumerate() {
-            let before = between(place, count, " and ");
-            write!(self.text, "{before}{}", Number(*addr))?;
-        }
-        Ok(())
+        Ok(None)
     }
 
     /// Adds what a core did last and how it goes on.
-    fn stand(&mut self, stand: &Stand) -> Written {
+    fn stand(&self, text: &mut String, stand: &Stand) -> Written {
         let core = stand.core.get();
         match stand.last {
-            Point::Init => write!(self.text, "core {core} has done nothing"),
-            last => write!(self.text, "core {core} has done {last}"),
+            Point::Init => write!(text, "core {core} has done nothing"),
+            last => write!(text, "core {core} has done {last}"),
         }?;
         match &stand.course {
-            Course::Done => self.text.push_str(", its last"),
-            Course::Free => self.text.push_str(" and may go on"),
+            Course::Done => text.push_str(", its last"),
+            Course::Free => text.push_str(" and may go on"),
             Course::Awaits(id, point) => {
-                self.wait(stand, id)?;
-                write!(self.text, "{point}")
+                push_wait(text, stand, id)?;
+                write!(text, "{point}")
             }
             Course::Seeks(id, there) => {
-                self.wait(stand, id)?;
-                self.seek(id, *there)
+                push_wait(text, stand, id)?;
+                self.seek(text, id, *there)
             }
         }
     }
 
-    /// Adds at which operation a core waits, or would wait.
-    fn wait(&mut self, stand: &Stand, id: &OpId) -> Written {
-        let is_next = id.index.get() == stand.next;
-        let (word, at) = (if is_next { "waits" } else { "would wait" }, Point::At(*id));
-        write!(self.text, " and {word} at {at} for ")
-    }
-
     /// Adds the word that an operation seeks at its address, which has another one.
-    fn seek(&mut self, id: &OpId, there: Word) -> Written {
+    fn seek(&self, text: &mut String, id: &OpId, there: Word) -> Written {
         let Some(access) = self.trace.operation(id) else {
-            return self.text.push_str("nothing");
+            return text.push_str("nothing");
         };
         let (read, addr) = (access.read().unwrap_or(there), Number(access.addr()));
         let (read, there) = (Number(read), Number(there));
-        write!(self.text, "a {read} at address {addr}, which has {there}")
+        write!(text, "a {read} at address {addr}, which has {there}")
     }
+}
+
+/// Adds that one of these ranges gives a read its word, or nothing does.
+fn push_sources(text: &mut String, ranges: &[Range]) -> Written {
+    if ranges.is_empty() {
+        return text.push_str("nothing gives");
+    }
+    for (place, range) in ranges.iter().enumerate() {
+        let before = between(place, ranges.len(), " or ");
+        write!(text, "{before}{}", Givers(range.first, range.last))?;
+    }
+    text.push_str(" gives")
+}
+
+/// Adds the points that go round, and which of them follow each other by program order.
+fn push_round(text: &mut String, round: &[Hop]) -> Written {
+    write!(text, "but {} would go round", Joined(round, ", "))?;
+    let count = round.iter().filter(|hop| is_told(hop)).count();
+    if count == 0 {
+        return Ok(());
+    }
+    let (mut before, mut place) = (": ", 0usize);
+    for hop in round {
+        if is_told(hop) {
+            write!(text, "{before}{} before {}", hop.from, hop.to)?;
+            place = place.saturating_add(1);
+            before = between(place, count, " and ");
+        }
+    }
+    text.push_str(" by program order")
 }
 
 /// Whether a piece of the way round goes from an operation to one after it in its core, which is told.
 fn is_told(hop: &Hop) -> bool {
     hop.by_program && hop.from != Point::Init
+}
+
+/// Adds that a set of so many states at these addresses has no end.
+fn push_set(text: &mut String, addresses: &[Address], count: usize) -> Written {
+    text.push_str("but no order of the operations at ")?;
+    push_addresses(text, addresses)?;
+    let s = if count == 1 { "s" } else { "" };
+    write!(
+        text,
+        " comes to its end, as {} show{s}; in the furthest one",
+        Counted(count as u64, "state")
+    )
+}
+
+/// Adds addresses, or how many there are.
+fn push_addresses(text: &mut String, addresses: &[Address]) -> Written {
+    let count = addresses.len();
+    if count > MOST_ADDRESSES {
+        return write!(text, "{count} addresses");
+    }
+    text.push_str(if count == 1 { "address " } else { "addresses " })?;
+    for (place, addr) in addresses.iter().enumerate() {
+        let before = between(place, count, " and ");
+        write!(text, "{before}{}", Number(*addr))?;
+    }
+    Ok(())
+}
+
+/// Adds at which operation a core waits, or would wait.
+fn push_wait(text: &mut String, stand: &Stand, id: &OpId) -> Written {
+    let is_next = id.index.get() == stand.next;
+    let (word, at) = (if is_next { "waits" } else { "would wait" }, Point::At(*id));
+    write!(text, " and {word} at {at} for ")
 }

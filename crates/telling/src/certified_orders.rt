@@ -3,17 +3,13 @@
 use super::arguments::count_of;
 use super::certificates::push_end;
 use super::shown::{Deed, Stored, Written};
-use super::slips::{RefusedLine, number_in, push_trouble, trouble_of};
+use super::slips::{RefusedLine, is_feed, number_in, push_trouble, trouble_of};
 use super::step_lines::begins_step;
 use mem_op::{CoreId, OpId, OpIndex};
 use refutation::Point;
-use std::alloc::{AllocError, Global};
+use std::alloc::Global;
 use std::str;
 use trace::{Address, Trace};
-
-/// How an order is written.
-const LINES: &str =
-    "An order has a line C.I for each operation, then end N with their number; a refutation begins with tardis-refutation 1.\n";
 
 /// Adds the words about a line of an order.
 pub(crate) fn push_order_line(
@@ -22,7 +18,13 @@ pub(crate) fn push_order_line(
     trace: &Trace,
     at: &RefusedLine<'_>,
 ) -> Written {
-    let before = ids_before(alloc, at)?;
+    let lines = at.place.line.saturating_sub(1) as usize;
+    let before: Vec<OpId> = at
+        .text
+        .split(is_feed)
+        .take(lines)
+        .filter_map(id_of)
+        .collect(alloc)?;
     let placed = Placed {
         trace,
         before: before.as_slice(),
@@ -36,23 +38,8 @@ pub(crate) fn push_order_line(
             placed.push_missing(told)?;
             push_end(told, at, count_of(trace) as u64)
         }
-        None => {
-            told.push_str(LINES)?;
-            push_slip(told, at)
-        }
+        None => push_no_id(told, at),
     }
-}
-
-/// The ids of the lines before one.
-fn ids_before(alloc: Global, at: &RefusedLine<'_>) -> Result<Vec<OpId>, AllocError> {
-    let mut ids = Vec::new(alloc);
-    let before = at.place.line.saturating_sub(1) as usize;
-    for line in at.text.split(|byte| *byte == b'\n').take(before) {
-        if let Some(id) = id_of(line) {
-            ids.push(id)?;
-        }
-    }
-    Ok(ids)
 }
 
 /// The id that a line is.
@@ -64,13 +51,13 @@ fn id_of(line: &[u8]) -> Option<OpId> {
     })
 }
 
-/// Adds what has usually gone wrong in a line that is neither an id's nor the last one.
-fn push_slip(told: &mut String, at: &RefusedLine<'_>) -> Written {
-    let first = at.words.first().copied().unwrap_or("");
-    if let Some(slip) = slip_of(first, at.words) {
-        return write!(told, "{slip}\n");
-    }
-    if let Some(slip) = at.slip() {
+/// Adds how an order is written, and what has usually gone wrong in a line that is neither an id's nor the last one.
+fn push_no_id(told: &mut String, at: &RefusedLine<'_>) -> Written {
+    told.push_str(
+        "An order has a line C.I for each operation, then end N with their number; a refutation begins with tardis-refutation 1.\n",
+    )?;
+    let first = at.first_word();
+    if let Some(slip) = slip_of(first, at.words).or(at.slip()) {
         return write!(told, "{slip}\n");
     }
     match trouble_of("source", first) {
@@ -105,18 +92,17 @@ struct Placed<'a> {
 impl<'a> Placed<'a> {
     /// Adds why an operation can't come next.
     fn push_wrong(&self, told: &mut String, id: &OpId) -> Written {
-        let (at, placed) = (Point::At(*id), self.placed(id.core));
+        let (at, core, next) = (Point::At(*id), id.core.get(), self.next_of(id.core));
         let Some(access) = self.trace.operation(id) else {
             return write!(told, "The trace has no operation {at}.\n");
         };
-        if id.index.get() < placed {
+        if id.index.get() < next {
             return write!(told, "{at} stands on a line before it.\n");
         }
-        if id.index.get() > placed {
-            let core = id.core.get();
+        if id.index.get() > next {
             return write!(
                 told,
-                "The next operation of core {core} is {core}.{placed}.\n"
+                "The next operation of core {core} is {core}.{next}.\n"
             );
         }
         let deed = Deed(self.trace, *id);
@@ -134,19 +120,16 @@ impl<'a> Placed<'a> {
         }
     }
 
-    /// How many operations of a core stand before.
-    fn placed(&self, core: CoreId) -> u64 {
+    /// The index of the next operation of a core: how many of it stand before.
+    fn next_of(&self, core: CoreId) -> u64 {
         self.before.iter().filter(|id| id.core == core).count() as u64
     }
 
     /// The last store or swap before at an address.
     fn last_store(&self, addr: Address) -> Option<OpId> {
         for id in self.before.iter().rev() {
-            if self
-                .trace
-                .operation(id)
-                .is_some_and(|it| it.is_store_to(addr))
-            {
+            let access = self.trace.operation(id);
+            if access.is_some_and(|access| access.is_store_to(addr)) {
                 return Some(*id);
             }
         }
@@ -156,15 +139,11 @@ impl<'a> Placed<'a> {
     /// Adds an operation that is missing, if one is.
     fn push_missing(&self, told: &mut String) -> Written {
         for (core, operations) in self.trace.cores().iter().enumerate() {
-            let Ok(core) = CoreId::new(core as u64) else {
-                return Ok(());
-            };
-            let placed = self.placed(core);
-            if placed < operations.len() as u64 {
-                let core = core.get();
+            let next = CoreId::new(core as u64).map_or(0, |core| self.next_of(core));
+            if next < operations.len() as u64 {
                 return write!(
                     told,
-                    "Operations are missing before it: the next one of core {core} is {core}.{placed}.\n"
+                    "Operations are missing before it: the next one of core {core} is {core}.{next}.\n"
                 );
             }
         }

@@ -1,6 +1,6 @@
 //! An explanation of a verdict as text: a sentence, the facts behind it, and a table of what stands around.
 
-use super::findings::{push_culprit, push_sentence, push_times};
+use super::findings::{first_sentence, push_culprit, push_times};
 use super::shown::{Bytes, Number, Plain, Written};
 use core_program::print_instruction;
 use explain::{
@@ -20,23 +20,17 @@ pub fn print(
     names: &[&str],
     explanation: &Explanation,
 ) -> Result<String, AllocError> {
-    let mut text = String::new(alloc);
-    push(alloc, names, &mut text, explanation)?;
-    Ok(text)
-}
-
-/// Adds the text of an explanation.
-fn push(alloc: Global, names: &[&str], text: &mut String, explanation: &Explanation) -> Written {
-    if let Explanation::Summed(summary) = explanation {
-        return push_summary(text, summary);
-    }
-    push_sentence(text, explanation)?;
+    let mut text = match explanation {
+        Explanation::Summed(_) => Ok(String::new(alloc)),
+        _ => first_sentence(alloc, explanation),
+    }?;
     match explanation {
-        Explanation::Load(found) => push_wrong_read(alloc, names, text, found),
-        Explanation::CoreOrder(fall) => push_fall(names, text, fall),
-        Explanation::Program(departure) => push_departure(alloc, names, text, departure),
-        Explanation::Summed(_) => Ok(()),
-    }
+        Explanation::Load(found) => push_wrong_read(alloc, names, &mut text, found),
+        Explanation::CoreOrder(fall) => push_fall(names, &mut text, fall),
+        Explanation::Program(departure) => push_departure(alloc, names, &mut text, departure),
+        Explanation::Summed(summary) => push_summary(&mut text, summary),
+    }?;
+    Ok(text)
 }
 
 /// A record's line, and where it stands, in these files: the first record of a file is its second line. Where there is none, other words.
@@ -276,11 +270,11 @@ fn push_table(
         false => write!(text, "\naddress {addr} by key:\n"),
     }?;
     let rows = rows(alloc, entries, marked, is_of_core)?;
-    push_rows(
-        text,
-        rows.as_str(),
-        if is_of_core { WIDTHS } else { NARROW },
-    )
+    let widths = widened(if is_of_core { WIDTHS } else { NARROW }, rows.as_str());
+    for row in rows.lines() {
+        push_row(text, alloc, row, &widths)?;
+    }
+    Ok(())
 }
 
 /// The lines of a table, in which tabs stand between the cells.
@@ -302,15 +296,6 @@ fn rows(
     Ok(rows)
 }
 
-/// Adds these lines with their cells below each other, in columns of at least these widths; a column without a width is left out.
-fn push_rows(text: &mut String, rows: &str, least: [usize; 7]) -> Written {
-    let widths = widened(least, rows);
-    for row in rows.lines() {
-        push_row(text, row, &widths)?;
-    }
-    Ok(())
-}
-
 /// These widths, widened for the cells of lines.
 fn widened(least: [usize; 7], rows: &str) -> [usize; 7] {
     let mut widths = least;
@@ -329,24 +314,18 @@ fn widen(widths: &mut [usize; 7], row: &str) {
     }
 }
 
-/// Adds the line of a row, without spaces at its end.
-fn push_row(text: &mut String, row: &str, widths: &[usize; 7]) -> Written {
-    let (pad, mut gap) = ("", 0usize);
+/// Adds the line of a row with its cells in columns of these widths, without spaces at its end. A column without a width is left out.
+fn push_row(text: &mut String, alloc: Global, row: &str, widths: &[usize; 7]) -> Written {
+    let mut line = String::new(alloc);
     for (column, cell) in row.split('\t').enumerate() {
         if column < widths.len() && widths[column] > 0 {
-            let rest = widths[column].saturating_sub(cell.len());
-            let (before, after) = if ARE_NUMBERS[column] {
-                (rest, 2)
+            let width = widths[column];
+            if ARE_NUMBERS[column] {
+                write!(line, "{cell:>width$}  ")
             } else {
-                (0, rest.saturating_add(2))
-            };
-            gap = gap.saturating_add(before);
-            if !cell.is_empty() {
-                write!(text, "{pad:gap$}{cell}")?;
-                gap = 0;
-            }
-            gap = gap.saturating_add(after);
+                write!(line, "{cell:<width$}  ")
+            }?;
         }
     }
-    text.push('\n')
+    write!(text, "{}\n", line.trim_end())
 }

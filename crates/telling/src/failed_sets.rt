@@ -3,7 +3,8 @@
 use super::failed_steps::Asked;
 use super::shown::Written;
 use mem_op::{CoreId, OpId, OpIndex, Word};
-use refutation::{Point, State};
+use refutation::{Numbers, Point, State, next_operation, number_of, put_word, settle, word_of};
+use refuted_cases::awaited;
 use std::alloc::{AllocError, Global};
 use std::collections::BTreeSet;
 use std::fmt;
@@ -58,6 +59,37 @@ struct SetCheck<'a> {
     seen: BTreeSet<Key>,
 }
 
+/// Why a state isn't dead: no core has an operation at its limit, or this one doesn't wait there.
+#[derive(Clone, Copy)]
+enum Alive {
+    NoLimit,
+    Past(OpId),
+    Store(Point),
+    Aside(Point),
+    Finds(Point),
+    /// The operation waits for a word that a store still stores.
+    Fed(Point, Point),
+}
+
+impl Display for Alive {
+    fn fmt<W: fmt::Write>(&self, f: &mut fmt::Formatter<W>) -> fmt::Result {
+        match self {
+            Alive::NoLimit => f.write_str("no core has an operation at its limit"),
+            Alive::Past(id) => {
+                let core = id.core.get();
+                write!(f, "core {core} is past its limit, {}", Point::At(*id))
+            }
+            Alive::Store(at) => write!(f, "{at} is a store, and waits for no word"),
+            Alive::Aside(at) => write!(f, "the address of {at} isn't looked at"),
+            Alive::Finds(at) => write!(f, "{at} finds its word"),
+            Alive::Fed(at, store) => write!(
+                f,
+                "{at} waits for a word that {store} still stores there before its limit"
+            ),
+        }
+    }
+}
+
 /// Adds which question of its rule a set of states fails at these addresses, which isn't closed.
 pub(crate) fn push_failed_set(
     told: &mut String,
@@ -73,15 +105,7 @@ pub(crate) fn push_failed_set(
         addresses,
         seen,
     };
-    if check.push_first(told)? {
-        return Ok(());
-    }
-    for state in states {
-        if check.push_state(told, state)? {
-            return Ok(());
-        }
-    }
-    Ok(())
+    check.push_flaw(told, states)
 }
 
 /// The states of a set, as they are looked up.
@@ -96,76 +120,62 @@ fn seen_of(alloc: Global, states: &[State]) -> Result<BTreeSet<Key>, AllocError>
 }
 
 impl<'a> SetCheck<'a> {
+    /// Adds what is wrong with the set: it lacks the first state, or one of these states isn't right.
+    fn push_flaw(&self, told: &mut String, states: &[State]) -> Written {
+        if self.push_first(told)? {
+            return Ok(());
+        }
+        for state in states {
+            if self.push_state(told, state)? {
+                return Ok(());
+            }
+        }
+        Ok(())
+    }
+
     /// Whether the set lacks the first state; adds that, too.
     fn push_first(&self, told: &mut String) -> Result<bool, AllocError> {
         let next = vec![in self.alloc; 0; self.asked.trace.cores().len()]?;
         let words = vec![in self.alloc; 0; self.addresses.len()]?;
-        let first = self.settled(next, words)?;
-        let lacks = !self.seen.contains(&first);
-        if lacks {
-            let (next, words) = (Spaced(first.0.as_slice()), Spaced(first.1.as_slice()));
-            write!(told, "The set lacks the first state, |{next} :{words}.\n")?;
-        }
-        Ok(lacks)
+        let Some(first) = self.lacked(next.as_slice(), words)? else {
+            return Ok(false);
+        };
+        let first = ShownState(&first);
+        write!(told, "The set lacks the first state, {first}.\n")?;
+        Ok(true)
     }
 
-    /// A state, once all is performed that passes.
-    fn settled(&self, next: Vec<u64>, words: Vec<Word>) -> Result<Key, AllocError> {
-        let mut far = Vec::new(self.alloc);
-        for (core, operations) in self.asked.trace.cores().iter().enumerate() {
-            let from = number_of(next.as_slice(), core) as usize;
-            far.push(self.settled_index(operations.as_slice(), from, words.as_slice()))?;
+    /// The state of these indices and words, once all is performed that passes, if the set lacks it.
+    fn lacked(&self, next: &[u64], words: Vec<Word>) -> Result<Option<State>, AllocError> {
+        let far = settle(self.alloc, self.asked.trace, self.addresses, &words, next)?;
+        let state = (far, words);
+        if self.seen.contains(&state) {
+            return Ok(None);
         }
-        Ok((far, words))
-    }
-
-    /// The index of the first of a core's operations, from this one on, that doesn't pass.
-    fn settled_index(&self, operations: &[Access], from: usize, words: &[Word]) -> u64 {
-        for (index, access) in operations.iter().enumerate().skip(from) {
-            if !self.passes(words, access) {
-                return index as u64;
-            }
-        }
-        operations.len().max(from) as u64
-    }
-
-    /// The word at an address, if it is looked at.
-    fn word_at(&self, words: &[Word], addr: Address) -> Option<Word> {
-        let slot = self.addresses.iter().position(|other| *other == addr)?;
-        words.get(slot).copied()
-    }
-
-    /// Whether an operation isn't looked at, or reads the word that is there and leaves it.
-    fn passes(&self, words: &[Word], access: &Access) -> bool {
-        match self.word_at(words, access.addr()) {
-            Some(word) => access.read() == Some(word) && access.word_left() == word,
-            None => true,
-        }
+        let (next, words) = (Numbers::new(state.0), Numbers::new(state.1));
+        Ok(Some(State::Open { next, words }))
     }
 
     /// Whether a state isn't right; adds why, too.
     fn push_state(&self, told: &mut String, state: &State) -> Result<bool, AllocError> {
-        match state {
-            State::Open { .. } => self.push_open(told, state),
-            State::Dead { limits, .. } => self.push_dead(told, state, limits.as_slice()),
-        }
-    }
-
-    /// The operation of a core whose index is its number, and its id.
-    fn at(&self, numbers: &[u64], core: usize) -> Option<(OpId, Access)> {
-        let number = number_of(numbers, core);
-        let id = OpId {
-            core: CoreId::new(core as u64).ok()?,
-            index: OpIndex::new(number).ok()?,
+        let State::Dead { limits, .. } = state else {
+            return self.push_open(told, state);
         };
-        Some((id, self.asked.trace.operation(&id)?))
+        match self.alive(state, limits.as_slice()) {
+            None => Ok(false),
+            Some(why) => {
+                let dead = ShownState(state);
+                write!(told, "The state {dead} isn't dead: {why}.\n")?;
+                Ok(true)
+            }
+        }
     }
 
     /// Whether a move leads out of the set from a state, or none is left; adds that, too.
     fn push_open(&self, told: &mut String, state: &State) -> Result<bool, AllocError> {
         let mut is_left = false;
         for core in 0..self.asked.trace.cores().len() {
-            if let Some((id, access)) = self.at(state.next(), core) {
+            if let Some((id, access)) = next_operation(self.asked.trace, state.next(), core) {
                 is_left = true;
                 if self.may_go(state, &id, &access) && self.push_out(told, state, &id, &access)? {
                     return Ok(true);
@@ -182,21 +192,11 @@ impl<'a> SetCheck<'a> {
         Ok(!is_left)
     }
 
-    /// Whether a core may perform its next operation in a state.
+    /// Whether an operation may be performed next in a state.
     fn may_go(&self, state: &State, id: &OpId, access: &Access) -> bool {
-        let word = self.word_at(state.words(), access.addr());
+        let word = word_of(self.addresses, state.words(), access.addr());
         let fits = word.is_some() && (access.read().is_none() || access.read() == word);
-        fits && !self.is_held_back(state, id)
-    }
-
-    /// Whether a fact puts a point that isn't performed before an operation.
-    fn is_held_back(&self, state: &State, id: &OpId) -> bool {
-        for fact in self.asked.facts {
-            if fact.later == Point::At(*id) && !was_performed(state, &fact.earlier) {
-                return true;
-            }
-        }
-        false
+        fits && awaited(self.asked.facts, state, id).is_none()
     }
 
     /// Whether the set lacks the state behind an operation; adds that, too.
@@ -207,111 +207,64 @@ impl<'a> SetCheck<'a> {
         id: &OpId,
         access: &Access,
     ) -> Result<bool, AllocError> {
-        let mut next = Vec::from_slice(self.alloc, state.next())?;
-        if let Some(number) = next.get_mut(id.core.get() as usize) {
-            *number = number.saturating_add(1);
-        }
-        let mut words = Vec::from_slice(self.alloc, state.words())?;
-        let slot = self
-            .addresses
-            .iter()
-            .position(|other| *other == access.addr());
-        if let Some(word) = slot.and_then(|slot| words.get_mut(slot)) {
-            *word = access.word_left();
-        }
-        let behind = self.settled(next, words)?;
-        let lacks = !self.seen.contains(&behind);
-        if lacks {
-            let (state, at) = (ShownState(state), Point::At(*id));
-            let (next, words) = (Spaced(behind.0.as_slice()), Spaced(behind.1.as_slice()));
-            write!(
-                told,
-                "From the state {state} the move of {at} leads to |{next} :{words}, which the set lacks.\n"
-            )?;
-        }
-        Ok(lacks)
-    }
-
-    /// Whether a state isn't dead by these limits; adds why, too.
-    fn push_dead(
-        &self,
-        told: &mut String,
-        state: &State,
-        limits: &[u64],
-    ) -> Result<bool, AllocError> {
-        let mut is_some = false;
-        for core in 0..self.asked.trace.cores().len() {
-            if let Some((id, access)) = self.at(limits, core) {
-                is_some = true;
-                if self.push_at_limit(told, state, limits, (&id, &access))? {
-                    return Ok(true);
-                }
-            }
-        }
-        if !is_some {
-            let state = ShownState(state);
-            write!(
-                told,
-                "The state {state} isn't dead: no core has an operation at its limit.\n"
-            )?;
-        }
-        Ok(!is_some)
-    }
-
-    /// Whether a core doesn't wait at its limit, where this operation is; adds why, too.
-    fn push_at_limit(
-        &self,
-        told: &mut String,
-        state: &State,
-        limits: &[u64],
-        (id, access): (&OpId, &Access),
-    ) -> Result<bool, AllocError> {
-        let (at, core) = (Point::At(*id), id.core.get());
-        let next = number_of(state.next(), core as usize);
-        let word = self.word_at(state.words(), access.addr());
-        let dead = ShownState(state);
-        match (access.read(), word) {
-            _ if next > id.index.get() => {
-                write!(
-                    told,
-                    "The state {dead} isn't dead: core {core} is past its limit, {at}.\n"
-                )
-            }
-            (None, _) => write!(
-                told,
-                "The state {dead} isn't dead: {at} is a store, and waits for no word.\n"
-            ),
-            (_, None) => write!(
-                told,
-                "The state {dead} isn't dead: the address of {at} isn't looked at.\n"
-            ),
-            (Some(read), Some(word)) if read == word => {
-                write!(told, "The state {dead} isn't dead: {at} finds its word.\n")
-            }
-            (Some(read), _) => match self.store_of(state.next(), limits, access.addr(), read) {
-                Some(store) => write!(
-                    told,
-                    "The state {dead} isn't dead: {at} waits for a word that {} still stores there before its limit.\n",
-                    Point::At(store)
-                ),
-                None => return Ok(false),
-            },
-        }?;
+        let next = next_behind(self.alloc, state, id)?;
+        let (addr, left) = (access.addr(), access.word_left());
+        let words = put_word(self.alloc, self.addresses, state.words(), addr, left)?;
+        let Some(behind) = self.lacked(next.as_slice(), words)? else {
+            return Ok(false);
+        };
+        let (state, at, behind) = (ShownState(state), Point::At(*id), ShownState(&behind));
+        write!(
+            told,
+            "From the state {state} the move of {at} leads to {behind}, which the set lacks.\n"
+        )?;
         Ok(true)
     }
 
+    /// Why a state isn't dead by these limits, if it isn't.
+    fn alive(&self, state: &State, limits: &[u64]) -> Option<Alive> {
+        let mut is_some = false;
+        for core in 0..self.asked.trace.cores().len() {
+            if let Some((id, access)) = next_operation(self.asked.trace, limits, core) {
+                is_some = true;
+                if let Some(why) = self.awake(state, limits, &id, &access) {
+                    return Some(why);
+                }
+            }
+        }
+        if is_some { None } else { Some(Alive::NoLimit) }
+    }
+
+    /// Why a core doesn't wait at its limit, where this operation is.
+    fn awake(&self, state: &State, limits: &[u64], id: &OpId, access: &Access) -> Option<Alive> {
+        let at = Point::At(*id);
+        let word = word_of(self.addresses, state.words(), access.addr());
+        if number_of(state.next(), id.core.get() as usize) > id.index.get() {
+            return Some(Alive::Past(*id));
+        }
+        match (access.read(), word) {
+            (None, _) => Some(Alive::Store(at)),
+            (_, None) => Some(Alive::Aside(at)),
+            (Some(read), Some(word)) if read == word => Some(Alive::Finds(at)),
+            (Some(read), _) => {
+                let store = self.store_of(state.next(), limits, access.addr(), read)?;
+                Some(Alive::Fed(at, store))
+            }
+        }
+    }
+
     /// An operation from these indices on and before the limits that stores a word to an address.
-    fn store_of(&self, next: &[u64], limits: &[u64], addr: Address, word: Word) -> Option<OpId> {
+    fn store_of(&self, next: &[u64], limits: &[u64], addr: Address, word: Word) -> Option<Point> {
         for (core, operations) in self.asked.trace.cores().iter().enumerate() {
-            let (from, to) = (number_of(next, core), number_of(limits, core));
-            let before = operations
-                .get(..to as usize)
-                .unwrap_or(operations.as_slice());
-            if let Some(index) = store_from(before, from as usize, addr, word) {
-                return Some(OpId {
-                    core: CoreId::new(core as u64).ok()?,
-                    index: OpIndex::new(index as u64).ok()?,
-                });
+            let (from, to) = (
+                number_of(next, core) as usize,
+                number_of(limits, core) as usize,
+            );
+            let core = CoreId::new(core as u64).ok()?;
+            let first = operations.get(..to).unwrap_or(operations.as_slice());
+            if let Some(index) = store_from(first, from, addr, word) {
+                let index = OpIndex::new(index as u64).ok()?;
+                return Some(Point::At(OpId { core, index }));
             }
         }
         None
@@ -328,15 +281,11 @@ fn store_from(operations: &[Access], from: usize, addr: Address, word: Word) -> 
     None
 }
 
-/// Whether a point is performed in a state.
-fn was_performed(state: &State, point: &Point) -> bool {
-    match point {
-        Point::Init => true,
-        Point::At(id) => id.index.get() < number_of(state.next(), id.core.get() as usize),
+/// The indices of the cores' next operations behind an operation that is performed in a state.
+fn next_behind(alloc: Global, state: &State, id: &OpId) -> Result<Vec<u64>, AllocError> {
+    let mut next = Vec::from_slice(alloc, state.next())?;
+    if let Some(number) = next.get_mut(id.core.get() as usize) {
+        *number = number.saturating_add(1);
     }
-}
-
-/// The number of a core: 0 if there is none.
-fn number_of(numbers: &[u64], core: usize) -> u64 {
-    numbers.get(core).copied().unwrap_or(0)
+    Ok(next)
 }

@@ -1,12 +1,94 @@
 //! Which question of its rule a step of a refutation fails.
 
 use super::failed_sets::push_failed_set;
-use super::shown::{Deed, Number, Shown, Written};
+use super::shown::{Deed, Number, Written};
 use mem_op::{CoreId, OpId, OpIndex, Word};
-use refutation::{Point, Range, Step};
-use refuted_cases::Link;
-use std::alloc::{AllocError, Global};
+use refutation::{Point, Range, Step, is_up_to, lies_in};
+use refuted_cases::{Link, Named};
+use std::alloc::Global;
+use std::fmt;
+use std::fmt::Display;
 use trace::{Access, Address, Trace};
+
+/// Why a step isn't right.
+#[derive(Clone, Copy)]
+enum Failure {
+    NoOperation(OpId),
+    NoRead(OpId),
+    /// What may have given a read its word lies in none of the ranges.
+    Outside(OpId, Point),
+    /// There is no fact of this number, where so many are in force.
+    NoFact(usize, usize),
+    /// The fact of this number isn't that of a read's source.
+    NoSource(usize, Link),
+    /// The write isn't one at the address of the read.
+    Elsewhere(OpId, Address, Point),
+    /// The write is the read itself.
+    Itself(Point),
+    /// The write is the last that may have given the read its word.
+    Giver(Point, Point),
+    /// Program order doesn't lead from a point to another, where the fact of this number begins, or the path ends.
+    Gap(Point, Point, Option<usize>),
+    NoCycle,
+}
+
+/// The words about a failure, beside a trace.
+#[derive(Clone, Copy)]
+struct Told<'a>(&'a Trace, Failure);
+
+impl<'a> Display for Told<'a> {
+    fn fmt<W: fmt::Write>(&self, f: &mut fmt::Formatter<W>) -> fmt::Result {
+        match self.1 {
+            Failure::NoOperation(id) => write!(f, "The trace has no operation {}.", Point::At(id)),
+            Failure::NoRead(id) => write!(f, "{}, and read nothing.", Deed(self.0, id)),
+            Failure::Outside(id, Point::Init) => write!(
+                f,
+                "{}. The initial 0 may have given that, and lies in none of the ranges.",
+                Deed(self.0, id)
+            ),
+            Failure::Outside(id, write) => write!(
+                f,
+                "{}. {write} stored that there, and lies in none of the ranges.",
+                Deed(self.0, id)
+            ),
+            Failure::NoFact(number, 0) => {
+                write!(f, "There is no fact {number} yet: none is in force.")
+            }
+            Failure::NoFact(number, count) => {
+                let last = count.saturating_sub(1);
+                write!(f, "There is no fact {number} yet: the last one is {last}.")
+            }
+            Failure::NoSource(number, known) => write!(
+                f,
+                "Fact {number} says that {} comes before {}; the step names one that a read gave.",
+                Named(known.earlier),
+                Named(known.later)
+            ),
+            Failure::Elsewhere(id, addr, read) => write!(
+                f,
+                "{}; the step names a store or swap at address {}, where {read} read.",
+                Deed(self.0, id),
+                Number(addr)
+            ),
+            Failure::Itself(at) => {
+                write!(f, "{at} is the read itself; the step names another write.")
+            }
+            Failure::Giver(at, read) => write!(
+                f,
+                "{at} is the last that may have given {read} its word; the step names another write."
+            ),
+            Failure::Gap(at, to, fact) => {
+                let (at, to) = (Named(at), Named(to));
+                write!(f, "Program order doesn't lead from {at} to {to}, where ")?;
+                match fact {
+                    Some(number) => write!(f, "fact {number} begins."),
+                    None => f.write_str("the path has to end."),
+                }
+            }
+            Failure::NoCycle => f.write_str("A cycle goes by one fact or more."),
+        }
+    }
+}
 
 /// What a rule is asked about: a trace, the steps before, and the facts in force.
 #[derive(Clone, Copy)]
@@ -27,58 +109,39 @@ struct Reading {
 impl<'a> Asked<'a> {
     /// Adds which question a step fails, which isn't right.
     pub(crate) fn push_failure(&self, told: &mut String, alloc: Global, step: &Step) -> Written {
-        match step {
-            Step::Read { read, ranges } => self.push_read(told, read, ranges.as_slice()),
+        let asked = match step {
+            Step::Read { read, ranges } => self.read(read, ranges.as_slice()),
             Step::FromRead {
                 source,
                 write,
                 path,
-            } => match self.push_source(told, *source, write)? {
-                Some(known) => {
-                    self.push_way(told, &known.last, path.as_slice(), &Point::At(*write))
-                }
-                None => Ok(()),
-            },
+            } => self.from_read(*source, write, path.as_slice()),
             Step::WriteOrder {
                 source,
                 write,
                 path,
-            } => match self.push_source(told, *source, write)? {
-                Some(known) => {
-                    self.push_way(told, &Point::At(*write), path.as_slice(), &known.later)
-                }
-                None => Ok(()),
-            },
-            Step::Cycle { path } => self.push_cycle(told, path.as_slice()),
+            } => self.write_order(*source, write, path.as_slice()),
+            Step::Cycle { path } => self.cycle(path.as_slice()),
             Step::States { addresses, set } => {
-                push_failed_set(told, alloc, self, addresses.as_slice(), set.as_slice())
+                return push_failed_set(told, alloc, self, addresses.as_slice(), set.as_slice());
             }
+        };
+        match asked {
+            Err(failure) => write!(told, "{}\n", Told(self.trace, failure)),
+            Ok(()) => Ok(()),
         }
     }
 
-    /// Adds why the source of a read doesn't lie in these ranges.
-    fn push_read(&self, told: &mut String, read: &OpId, ranges: &[Range]) -> Written {
-        let Some(access) = self.trace.operation(read) else {
-            return self.push_nothing(told, read);
-        };
-        let deed = Deed(self.trace, *read);
-        let Some(word) = access.read() else {
-            return write!(told, "{deed}, and read nothing.\n");
-        };
+    /// Whether the source of a read lies in these ranges.
+    fn read(&self, read: &OpId, ranges: &[Range]) -> Result<(), Failure> {
+        let access = self.operation(read)?;
         let reading = Reading {
             id: *read,
             addr: access.addr(),
-            word,
+            word: access.read().ok_or(Failure::NoRead(*read))?,
         };
         match self.outside(&reading, ranges) {
-            Some(Point::Init) => write!(
-                told,
-                "{deed}. The initial 0 may have given that, and lies in none of the ranges.\n"
-            ),
-            Some(write) => write!(
-                told,
-                "{deed}. {write} stored that there, and lies in none of the ranges.\n"
-            ),
+            Some(point) => Err(Failure::Outside(*read, point)),
             None => Ok(()),
         }
     }
@@ -97,129 +160,89 @@ impl<'a> Asked<'a> {
         None
     }
 
-    /// Adds that an operation isn't there.
-    fn push_nothing(&self, told: &mut String, id: &OpId) -> Written {
-        write!(told, "The trace has no operation {}.\n", Point::At(*id))
+    /// Whether a write comes after the source of a read, by this path.
+    fn from_read(&self, source: usize, write: &OpId, path: &[usize]) -> Result<(), Failure> {
+        let known = self.source(source, write)?;
+        self.way(&known.last, path, &Point::At(*write))
     }
 
-    /// The fact of this number, if it tells the source of a read, and the write is another one at the address of that; else adds why
-    /// it isn't so.
-    fn push_source(
-        &self,
-        told: &mut String,
-        number: usize,
-        write: &OpId,
-    ) -> Result<Option<Link>, AllocError> {
-        let Some(known) = self.facts.get(number) else {
-            self.push_no_fact(told, number)?;
-            return Ok(None);
-        };
-        match known.later {
-            Point::At(read) if self.is_source(known) => {
-                let is_right = self.push_other(told, &read, &known.last, write)?;
-                Ok(is_right.then_some(*known))
-            }
-            later => {
-                write!(
-                    told,
-                    "Fact {number} says that {} comes before {}; the step names one that a read gave.\n",
-                    Shown(known.earlier),
-                    Shown(later)
-                )?;
-                Ok(None)
-            }
+    /// Whether a write comes before a read, by this path.
+    fn write_order(&self, source: usize, write: &OpId, path: &[usize]) -> Result<(), Failure> {
+        let known = self.source(source, write)?;
+        self.way(&Point::At(*write), path, &known.later)
+    }
+
+    /// The operation of an id.
+    fn operation(&self, id: &OpId) -> Result<Access, Failure> {
+        match self.trace.operation(id) {
+            Some(access) => Ok(access),
+            None => Err(Failure::NoOperation(*id)),
         }
     }
 
-    /// Whether a fact tells the source of a read.
-    fn is_source(&self, known: &Link) -> bool {
-        matches!(self.steps.get(known.step), Some(Step::Read { .. }))
+    /// The fact of a number.
+    fn fact(&self, number: usize) -> Result<Link, Failure> {
+        let none = Failure::NoFact(number, self.facts.len());
+        self.facts.get(number).copied().ok_or(none)
     }
 
-    /// Whether a write is one at the address of a read, and neither that read nor the last point of its source; else adds why it isn't.
-    fn push_other(
-        &self,
-        told: &mut String,
-        read: &OpId,
-        last: &Point,
-        write: &OpId,
-    ) -> Result<bool, AllocError> {
-        let Some(writing) = self.trace.operation(write) else {
-            self.push_nothing(told, write)?;
-            return Ok(false);
+    /// The fact of this number, which tells the source of a read; and the write is another one at its address.
+    fn source(&self, number: usize, write: &OpId) -> Result<Link, Failure> {
+        let known = self.fact(number)?;
+        let Some(read) = self.reader(&known) else {
+            return Err(Failure::NoSource(number, known));
         };
-        let (at, reader) = (Point::At(*write), Point::At(*read));
+        self.other(read, &known.last, write)?;
+        Ok(known)
+    }
+
+    /// The read whose source a fact tells.
+    fn reader(&self, known: &Link) -> Option<&'a OpId> {
+        match self.steps.get(known.step) {
+            Some(Step::Read { read, .. }) => Some(read),
+            _ => None,
+        }
+    }
+
+    /// Whether a write is one at the address of a read, and neither that read nor the last point of its source.
+    fn other(&self, read: &OpId, last: &Point, write: &OpId) -> Result<(), Failure> {
+        let (writing, at) = (self.operation(write)?, Point::At(*write));
         let addr = self.trace.operation(read).map_or(0, |access| access.addr());
-        let is_store = writing.is_store_to(addr);
-        if is_store && write != read && *last != at {
-            return Ok(true);
+        if !writing.is_store_to(addr) {
+            return Err(Failure::Elsewhere(*write, addr, Point::At(*read)));
         }
-        if !is_store {
-            let (deed, addr) = (Deed(self.trace, *write), Number(addr));
-            write!(
-                told,
-                "{deed}; the step names a store or swap at address {addr}, where {reader} read.\n"
-            )
-        } else if write == read {
-            write!(
-                told,
-                "{at} is the read itself; the step names another write.\n"
-            )
-        } else {
-            write!(
-                told,
-                "{at} is the last that may have given {reader} its word; the step names another write.\n"
-            )
-        }?;
-        Ok(false)
+        if write == read {
+            return Err(Failure::Itself(at));
+        }
+        if *last == at {
+            return Err(Failure::Giver(at, Point::At(*read)));
+        }
+        Ok(())
     }
 
-    /// Adds that no fact has this number.
-    fn push_no_fact(&self, told: &mut String, number: usize) -> Written {
-        match self.facts.len().checked_sub(1) {
-            Some(last) => write!(
-                told,
-                "There is no fact {number} yet: the last one is {last}.\n"
-            ),
-            None => write!(told, "There is no fact {number} yet: none is in force.\n"),
-        }
-    }
-
-    /// Adds where a path doesn't lead on from one point to another, if there is such a place.
-    fn push_way(&self, told: &mut String, from: &Point, path: &[usize], to: &Point) -> Written {
+    /// Whether a path leads on from one point to another.
+    fn way(&self, from: &Point, path: &[usize], to: &Point) -> Result<(), Failure> {
         let mut at = *from;
         for number in path {
-            let Some(known) = self.facts.get(*number) else {
-                return self.push_no_fact(told, *number);
-            };
+            let known = self.fact(*number)?;
             if !is_up_to(&at, &known.earlier) {
-                let (at, next) = (Shown(at), Shown(known.earlier));
-                return write!(
-                    told,
-                    "Program order doesn't lead from {at} to {next}, where fact {number} begins.\n"
-                );
+                return Err(Failure::Gap(at, known.earlier, Some(*number)));
             }
             at = known.later;
         }
-        if is_up_to(&at, to) {
-            return Ok(());
+        if !is_up_to(&at, to) {
+            return Err(Failure::Gap(at, *to, None));
         }
-        let (at, to) = (Shown(at), Shown(*to));
-        write!(
-            told,
-            "Program order doesn't lead from {at} to {to}, where the path has to end.\n"
-        )
+        Ok(())
     }
 
-    /// Adds why a path doesn't go round.
-    fn push_cycle(&self, told: &mut String, path: &[usize]) -> Written {
+    /// Whether a path goes round.
+    fn cycle(&self, path: &[usize]) -> Result<(), Failure> {
         let [number, rest @ ..] = path else {
-            return told.push_str("A cycle goes by one fact or more.\n");
+            return Err(Failure::NoCycle);
         };
-        match self.facts.get(*number) {
-            Some(first) => self.push_way(told, &first.later, rest, &first.earlier),
-            None => self.push_no_fact(told, *number),
-        }
+        let first = self.fact(*number)?;
+        self.way(&first.later, rest, &first.earlier)
     }
 }
 
@@ -233,24 +256,10 @@ fn outside_of_core(
     for (index, access) in operations.iter().enumerate() {
         let index = OpIndex::new(index as u64).ok()?;
         let id = OpId { core, index };
-        let may_give = access.stores(read.addr, read.word) && id != read.id;
-        if may_give && !lies_in(ranges, &Point::At(id)) {
-            return Some(Point::At(id));
+        let at = Point::At(id);
+        if access.stores(read.addr, read.word) && id != read.id && !lies_in(ranges, &at) {
+            return Some(at);
         }
     }
     None
-}
-
-/// Whether a point lies in one of the ranges.
-fn lies_in(ranges: &[Range], point: &Point) -> bool {
-    ranges.iter().any(|range| is_up_to(&range.first, point) && is_up_to(point, &range.last))
-}
-
-/// Whether one point is another, or before it in program order.
-fn is_up_to(one: &Point, other: &Point) -> bool {
-    match (one, other) {
-        (Point::Init, _) => true,
-        (Point::At(one), Point::At(other)) => one.core == other.core && one.index <= other.index,
-        (Point::At(_), Point::Init) => false,
-    }
 }

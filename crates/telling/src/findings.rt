@@ -13,18 +13,13 @@ use verdict::Rule;
 /// The sentence that an explanation begins with: what is wrong, or that nothing is.
 pub fn first_sentence(alloc: Global, explanation: &Explanation) -> Result<String, AllocError> {
     let mut text = String::new(alloc);
-    push_sentence(&mut text, explanation)?;
-    Ok(text)
-}
-
-/// Adds that sentence.
-pub(crate) fn push_sentence(text: &mut String, explanation: &Explanation) -> Written {
     match explanation {
-        Explanation::Load(found) => push_wrong_read(text, found),
-        Explanation::CoreOrder(fall) => push_fall(text, fall),
-        Explanation::Program(departure) => push_departure(text, departure),
+        Explanation::Load(found) => push_wrong_read(&mut text, found),
+        Explanation::CoreOrder(fall) => push_fall(&mut text, fall),
+        Explanation::Program(departure) => push_departure(&mut text, departure),
         Explanation::Summed(_) => text.push_str("No operation breaks a rule."),
-    }
+    }?;
+    Ok(text)
 }
 
 /// Adds what is wrong with a load, or with what a swap reads.

@@ -17,7 +17,6 @@ mod step_lines;
 mod traces;
 
 pub use arguments::{count_of, push_argument, tell};
-pub use certificates::CertificateTelling;
 pub use explanations::print;
 pub use findings::first_sentence;
 pub use refusals::{Kind, Place, Refused, Telling};

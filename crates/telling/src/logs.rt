@@ -43,36 +43,40 @@ const CUT_OFF: &str = "in the middle of a line: it is cut off";
 
 /// The words about a fault at this line, if that is one sentence.
 fn sentence(fault: FormatFault, at: &RefusedLine<'_>) -> Option<&'static str> {
-    Some(match (fault, at.line) {
-        (FormatFault::OutOfRange, _) if at.place.line == 1 => {
+    Some(match fault {
+        FormatFault::OutOfRange if at.place.line == 1 => {
             "It says core C of N: N is 1 to 64, and C is less than N, since cores are counted from 0."
         }
-        (FormatFault::TooMany, _) => "A log has at most 1048576 operations.",
-        (FormatFault::TrailingBytes, []) if at.is_whole() => {
+        FormatFault::TooMany => "A log has at most 1048576 operations.",
+        FormatFault::TrailingBytes if at.line.is_empty() && at.is_whole() => {
             "It is an empty line after the end line, which is the last."
         }
-        (FormatFault::TrailingBytes, _) => "It comes after the end line, which is the last.",
-        (FormatFault::Truncated, _) if at.text.is_empty() => "The file is empty.",
-        (FormatFault::Truncated, [b'e', b'n', b'd', b' ', ..]) => {
+        FormatFault::TrailingBytes => "It comes after the end line, which is the last.",
+        FormatFault::Truncated if at.text.is_empty() => "The file is empty.",
+        FormatFault::Truncated if at.line.starts_with(b"end ") => {
             "The file ends before the line feed of its last line: write one there too."
         }
-        (FormatFault::BadLine, line) => return line_slip(line, at),
+        FormatFault::BadLine => return line_slip(at),
         _ => return None,
     })
 }
 
 /// The words about a slip of a later line.
-fn line_slip(line: &[u8], at: &RefusedLine<'_>) -> Option<&'static str> {
+fn line_slip(at: &RefusedLine<'_>) -> Option<&'static str> {
+    if at.line.is_empty() {
+        return Some("It is empty; there are no empty lines.");
+    }
     let slip = at.slip();
-    Some(match line {
-        [] => "It is empty; there are no empty lines.",
-        _ if slip.is_some() => return slip,
-        _ if line.len() > Format::Two.line_limit() => "It is longer than any record is.",
-        [b'X', b' ', ..] if at.first_line().starts_with(b"tardis-log 1 ") => {
-            "A swap is in format 2 alone, and the first line says format 1: write tardis-log 2 there."
-        }
-        _ => return None,
-    })
+    if slip.is_some() {
+        return slip;
+    }
+    if at.line.len() > Format::Two.line_limit() {
+        return Some("It is longer than any record is.");
+    }
+    let is_old = at.first_line().starts_with(b"tardis-log 1 ");
+    (at.line.starts_with(b"X ") && is_old).then_some(
+        "A swap is in format 2 alone, and the first line says format 1: write tardis-log 2 there.",
+    )
 }
 
 /// Adds how a first line is written, and the words about one that isn't so.
@@ -83,16 +87,17 @@ fn push_header(text: &mut String, at: &RefusedLine<'_>) -> Written {
     if let Some(slip) = at.slip() {
         return write!(text, "{slip}\n");
     }
-    text.push_str(match at.words {
-        ["tardis-log", "1" | "2", ..] | [] => "",
-        ["tardis-log", ..] => "There are formats 1 and 2.\n",
-        [first, ..] => begun_by(first),
+    let format = at.words.get(1).copied().unwrap_or("");
+    text.push_str(match at.first_word() {
+        "tardis-log" if matches!(format, "1" | "2") => "",
+        "tardis-log" => "There are formats 1 and 2.\n",
+        first => begun_by(first),
     })
 }
 
 /// Adds how a line of a record is written, and where this one, of these words, departs from that.
 fn push_record(text: &mut String, words: &[&str]) -> Written {
-    let [first, fields @ ..] = words else {
+    let Some((first, fields)) = words.split_first() else {
         return Ok(());
     };
     match shape_of(&RECORDS, first) {

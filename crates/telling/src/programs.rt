@@ -18,38 +18,51 @@ pub(crate) fn push_bad_line(text: &mut String, kind: Kind, at: &RefusedLine<'_>)
     if let Some(slip) = slip(at) {
         return write!(text, "{slip}\n");
     }
-    match at.words {
-        [] => Ok(()),
-        [first, fields @ ..] if at.place.line == 1 => push_first(text, kind, first, fields),
-        ["core", ..] => text.push_str(SECTIONS),
-        ["end", ..] => push_end(text, kind, at.text),
-        [first, ..] if kind == Kind::Programs && matches!(*first, "show" | "forbid") => write!(
+    let Some((first, fields)) = at.words.split_first() else {
+        return Ok(());
+    };
+    if at.place.line == 1 {
+        return push_first(text, kind, first, fields);
+    }
+    match *first {
+        "core" => text.push_str(SECTIONS),
+        "end" => push_end(text, kind, at.text),
+        "show" | "forbid" if kind == Kind::Programs => write!(
             text,
             "A set of programs has no line {first}, which is of litmus tests.\n"
         ),
-        ["show", fields @ ..] => push_show(text, at, fields),
-        ["forbid", fields @ ..] => push_forbid(text, at, fields),
-        [first, fields @ ..] => push_instruction(text, at, first, fields),
+        "show" => push_show(text, at, fields),
+        "forbid" => push_forbid(text, at, fields),
+        _ => push_instruction(text, at, first, fields),
     }
 }
 
 /// The words about a line after the last one, about one that is cut off, about an empty one, and about a slip.
 fn slip(at: &RefusedLine<'_>) -> Option<&'static str> {
-    let is_cut = !at.is_whole();
     let before = line_of(at.text, at.place.line.saturating_sub(1));
-    Some(match at.line {
-        _ if at.place.line > 1 && before == b"end".as_slice() => {
-            "It comes after the line end, which is the last."
-        }
-        [] if at.text.is_empty() => "The file is empty.",
-        [] if is_cut => "The file ends here, before its last line, end.",
-        [b'e', b'n', b'd'] if is_cut => {
-            "The file ends before the line feed of its last line: write one there too."
-        }
-        _ if is_cut => "The file ends in the middle of a line: it is cut off.",
-        [] => "It is empty; there are no empty lines.",
-        _ => return at.slip(),
-    })
+    if at.place.line > 1 && before == b"end".as_slice() {
+        return Some("It comes after the line end, which is the last.");
+    }
+    if !at.is_whole() {
+        return Some(cut_off(at));
+    }
+    if at.line.is_empty() {
+        return Some("It is empty; there are no empty lines.");
+    }
+    at.slip()
+}
+
+/// The words about the last line of a text, which has no line feed.
+fn cut_off(at: &RefusedLine<'_>) -> &'static str {
+    if at.text.is_empty() {
+        "The file is empty."
+    } else if at.line.is_empty() {
+        "The file ends here, before its last line, end."
+    } else if at.line == b"end".as_slice() {
+        "The file ends before the line feed of its last line: write one there too."
+    } else {
+        "The file ends in the middle of a line: it is cut off."
+    }
 }
 
 /// Adds how a first line is written, and where this one departs from that.

@@ -1,8 +1,8 @@
-//! How numbers, bytes, texts, points and operations are shown.
+//! How numbers, bytes, texts and operations are shown.
 
 use mem_op::OpId;
 use refutation::Point;
-use refuted_cases::Hop;
+use refuted_cases::{Hop, Named};
 use std::alloc::AllocError;
 use std::fmt;
 use std::fmt::Display;
@@ -75,34 +75,6 @@ impl<'a> Display for Plain<'a> {
     }
 }
 
-/// A point: an operation by its id.
-#[derive(Clone, Copy)]
-pub(crate) struct Shown(pub(crate) Point);
-
-impl Display for Shown {
-    fn fmt<W: fmt::Write>(&self, f: &mut fmt::Formatter<W>) -> fmt::Result {
-        match &self.0 {
-            Point::Init => f.write_str("the initial 0"),
-            Point::At(_) => self.0.fmt(f),
-        }
-    }
-}
-
-/// What lies from a point to another in program order.
-#[derive(Clone, Copy)]
-pub(crate) struct Within(pub(crate) Point, pub(crate) Point);
-
-impl Display for Within {
-    fn fmt<W: fmt::Write>(&self, f: &mut fmt::Formatter<W>) -> fmt::Result {
-        let (first, last) = (self.0, self.1);
-        match first {
-            _ if first == last => Shown(first).fmt(f),
-            Point::Init => write!(f, "the initial 0 or one up to {last}"),
-            Point::At(_) => write!(f, "one of {first} to {last}"),
-        }
-    }
-}
-
 /// What a write stored at an address that was named before.
 #[derive(Clone, Copy)]
 pub(crate) struct Stored(pub(crate) Option<Access>);
@@ -131,18 +103,18 @@ impl<'a> Display for Deed<'a> {
         let Some(access) = self.0.operation(&self.1) else {
             return write!(f, "{point} did nothing");
         };
-        let (addr, left, read) = (access.addr(), access.word_left(), access.read());
-        let is_swap = read.is_some() && access.is_store_to(addr);
-        let (did, word, to) = match read {
-            Some(read) if !is_swap => ("loaded", read, "from"),
-            Some(_) => ("swapped", left, "into"),
-            None => ("stored", left, "to"),
-        };
-        let (word, addr) = (Number(word), Number(addr));
-        write!(f, "{point} {did} {word} {to} address {addr}")?;
-        match read {
-            Some(read) if is_swap => write!(f, " and loaded {}", Number(read)),
-            _ => Ok(()),
+        let addr = access.addr();
+        let (left, to) = (Number(access.word_left()), Number(addr));
+        match access.read() {
+            None => write!(f, "{point} stored {left} to address {to}"),
+            Some(read) if access.is_store_to(addr) => {
+                let read = Number(read);
+                write!(
+                    f,
+                    "{point} swapped {left} into address {to} and loaded {read}"
+                )
+            }
+            Some(read) => write!(f, "{point} loaded {} from address {to}", Number(read)),
         }
     }
 }
@@ -153,11 +125,11 @@ pub(crate) struct Joined<'a>(pub(crate) &'a [Hop], pub(crate) &'a str);
 
 impl<'a> Display for Joined<'a> {
     fn fmt<W: fmt::Write>(&self, f: &mut fmt::Formatter<W>) -> fmt::Result {
-        if let [first, ..] = self.0 {
-            Shown(first.from).fmt(f)?;
+        if let Some(first) = self.0.first() {
+            Named(first.from).fmt(f)?;
         }
         for hop in self.0 {
-            write!(f, "{}{}", self.1, Shown(hop.to))?;
+            write!(f, "{}{}", self.1, Named(hop.to))?;
         }
         Ok(())
     }

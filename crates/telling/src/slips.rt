@@ -44,12 +44,7 @@ pub(crate) fn begins_with(shape: &Shape, first: &str) -> bool {
 
 /// The shape that begins with this word.
 pub(crate) fn shape_of(shapes: &'static [Shape], first: &str) -> Option<&'static Shape> {
-    for shape in shapes {
-        if begins_with(shape, first) {
-            return Some(shape);
-        }
-    }
-    None
+    shapes.iter().find(|shape| begins_with(shape, first))
 }
 
 /// Adds how a line of this shape is written.
@@ -85,13 +80,12 @@ fn push_missing(text: &mut String, line: &str, words: &[&str]) -> Written {
 /// The words if a field before the last was left out. If the last of four words is a source, it is the rank, and if the number
 /// of cores of a test has its word before it, it is the name.
 fn left_out(line: &str, words: &[&str]) -> Option<&'static str> {
-    match words {
-        [_, _, _, last] if *last == "init" || last.contains('.') => {
-            Some("Its rank is missing, 0 where all times differ.\n")
-        }
-        [_, "cores", _] if line.contains(" NAME ") => Some("Its name is missing.\n"),
-        _ => None,
+    let last = words.last().copied().unwrap_or("");
+    if words.len() == 4 && (last == "init" || last.contains('.')) {
+        return Some("Its rank is missing, 0 where all times differ.\n");
     }
+    let is_nameless = words.len() == 3 && words[1] == "cores" && line.contains(" NAME ");
+    is_nameless.then_some("Its name is missing.\n")
 }
 
 /// Adds what is wrong with the first of these words that isn't right in the place of its field.
@@ -176,16 +170,18 @@ fn number_trouble(word: &str, least: u64, greatest: u64, unlike: &'static str) -
 
 /// The words about a word that isn't a number, if it is like one.
 fn no_number(word: &str) -> Option<&'static str> {
-    Some(match word.as_bytes() {
-        [b'0', b'x' | b'X', ..] => "is hexadecimal; write numbers in decimal",
-        [b'-' | b'+', ..] => "has a sign; write digits alone",
-        [] => return None,
-        digits if digits.iter().all(u8::is_ascii_digit) => "has a zero before it; write none",
-        digits if digits.iter().all(u8::is_ascii_hexdigit) => {
-            "is hexadecimal; write numbers in decimal"
-        }
-        _ => return None,
-    })
+    let hexadecimal = "is hexadecimal; write numbers in decimal";
+    if word.starts_with("0x") || word.starts_with("0X") {
+        return Some(hexadecimal);
+    }
+    if word.starts_with('-') || word.starts_with('+') {
+        return Some("has a sign; write digits alone");
+    }
+    if !word.is_empty() && word.bytes().all(|byte| byte.is_ascii_digit()) {
+        return Some("has a zero before it; write none");
+    }
+    let is_hexadecimal = !word.is_empty() && word.bytes().all(|byte| byte.is_ascii_hexdigit());
+    is_hexadecimal.then_some(hexadecimal)
 }
 
 /// The number that a word is; none if it isn't one, or one of more than 64 bits.
@@ -246,6 +242,16 @@ impl<'a> RefusedLine<'a> {
         line_of(self.text, 1)
     }
 
+    /// The word that it begins with.
+    pub(crate) fn first_word(&self) -> &'a str {
+        self.words.first().copied().unwrap_or("")
+    }
+
+    /// Whether the text ends where it is due.
+    pub(crate) fn is_missing(&self) -> bool {
+        self.line.is_empty() && !self.is_whole()
+    }
+
     /// Whether the line ends with a line feed.
     pub(crate) fn is_whole(&self) -> bool {
         self.place.line <= count_of(self.text, b'\n')
@@ -268,10 +274,7 @@ impl<'a> RefusedLine<'a> {
         if self.place.line == 1 && is_trace(self.text) {
             return Some("This is a trace; tardis search judges it.");
         }
-        match slip_of_bytes(self.line) {
-            None => slip_of_fields(self.line, self.words),
-            slip => slip,
-        }
+        slip_of_bytes(self.line).or(slip_of_fields(self.line, self.words))
     }
 }
 

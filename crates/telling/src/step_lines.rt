@@ -35,7 +35,7 @@ pub(crate) fn begins_step(first: &str) -> bool {
 
 /// Adds how a step like this one is written, and what has usually gone wrong in it.
 pub(crate) fn push_bad_step(told: &mut String, at: &RefusedLine<'_>) -> Written {
-    let first = at.words.first().copied().unwrap_or("");
+    let first = at.first_word();
     match shape_of(&STEPS, first) {
         Some(shape) => push_shape(told, shape),
         None => told.push_str(NO_STEP),

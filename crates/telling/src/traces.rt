@@ -63,7 +63,7 @@ fn slip_of_act(act: &str) -> Option<&'static str> {
     if !act.contains("==") && !act.contains(":=") {
         return Some("A load has ==, and a store :=.");
     }
-    if act.starts_with('{') && are_apart(addresses(act)) {
+    if act.starts_with('{') && are_apart(act) {
         return Some("A swap reads and stores at one address.");
     }
     for digits in act.split(is_no_digit) {
@@ -84,21 +84,16 @@ fn are_two(act: &str) -> bool {
     act.split("M[").count() > most + 1 || act.contains(": ")
 }
 
-/// The first address of a line, and the second.
-fn addresses(act: &str) -> (Option<u64>, Option<u64>) {
-    let mut parts = act.split("M[").skip(1).map(address_in);
-    (parts.next().flatten(), parts.next().flatten())
-}
-
 /// The number before a closing bracket, if it is one in decimal.
 fn address_in(part: &str) -> Option<u64> {
     let (address, _) = part.split_once(']')?;
     number_in(address.trim())
 }
 
-/// Whether there are two addresses, and not the same.
-fn are_apart(addresses: (Option<u64>, Option<u64>)) -> bool {
-    match addresses {
+/// Whether the first two addresses of an act are numbers, and not the same.
+fn are_apart(act: &str) -> bool {
+    let mut addresses = act.split("M[").skip(1).map(address_in);
+    match (addresses.next().flatten(), addresses.next().flatten()) {
         (Some(first), Some(second)) => first != second,
         _ => false,
     }

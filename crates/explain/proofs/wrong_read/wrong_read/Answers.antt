@@ -1,18 +1,16 @@
-use Rattle.std.proofs.Common.{◌≡◌, ◌∙◌, ap, sym, subst, refl, rules, false, None, Some, take, ◌<◌}
-use Rattle.std.specs.Prelude.{◌==◌, IfSome, IsNone, option_and_then, slice_get}
-use Rattle.std.specs.Option.{option_map_or}
+use Rattle.std.proofs.Common.{◌≡◌, ◌∙◌, ap, sym, subst, refl, rules, None, Some}
+use Rattle.std.specs.Prelude.{◌==◌, slice_get}
 use Rattle.std.proofs.lemmas.Bool.{eq-eqb}
 use Rattle.mem_op.specs.Consistency.{is_same_id}
+use Rattle.address_check.specs.AddressFaults.{right_store}
 use Rattle.address_check.specs.Groups.{IsGroup, at_address}
-use Rattle.address_check.specs.LastStores.{last_store}
+use Rattle.address_check.proofs.ByAddress.{right_in_group}
 use Rattle.explain.specs.Culprits.{culprit, same_word}
-use Rattle.explain.specs.Times.{next_store}
+use Rattle.explain.specs.Times.{is_right_earlier, next_store}
 use Rattle.explain.specs.WrongReads.{of_id}
 use Rattle.explain.specs.Windows.{window}
-use Rattle.explain.specs.inner.Shifts.{is_right_at}
 use Rattle.explain.proofs.Finding.{find_filtered}
-use Rattle.explain.proofs.RightStores.{right_is_last}
-use Rattle.explain.proofs.Shifts.{earlier_is, right_at}
+use Rattle.explain.proofs.RightStores.{earlier_in_group}
 use Rattle.explain.proofs.wrong_read.wrong_read.Goals as goal
 
 pub returns-in_default-place_of-clause-none : goal.returns-in_default-place_of-clause-none
@@ -37,16 +35,10 @@ returns-clause-found c =
     rw group (find_filtered (λ e. is_same_id e.id c.args.id) (λ e. e.logged.addr == load.logged.addr) es load found (eq-eqb load.logged.addr load.logged.addr refl)) in
     let stands : slice_get (at_address load.logged.addr es) place ≡ Some load = rw (← group) (c.in-Some-place_of.ensures.found.1 ∙ there) in
     let is : IsGroup (at_address load.logged.addr es) = subst IsGroup group c.group-group.ensures.is_group in
-    let right = c.store_before-right_place.result in
-    let there_is : IfSome right (λ p. (p < place) × (slice_get (at_address load.logged.addr es) p ≡ last_store (take place (at_address load.logged.addr es)))) =
-    subst (λ xs. IfSome right (λ p. (p < place) × (slice_get xs p ≡ last_store (take place xs)))) group c.store_before-right_place.ensures.found in
-    let none_is : IsNone right → last_store (take place (at_address load.logged.addr es)) ≡ None =
-    subst (λ xs. IsNone right → last_store (take place xs) ≡ None) group c.store_before-right_place.ensures.none in
     record {
       rule_is = refl;
       load = found;
-      right = c.entry_at-right.ensures ∙ ap (λ xs. option_and_then (slice_get xs) right) group ∙ right_at (at_address load.logged.addr es) place right there_is none_is
-          ∙ right_is_last es place load is stands;
+      right = c.right_store-right.ensures ∙ ap (λ xs. right_store xs load) group ∙ right_in_group es load.logged.addr load refl;
       named = search rules;
       place = place;
       stands = stands;
@@ -55,7 +47,7 @@ returns-clause-found c =
       marked = search rules;
       culprit_is = c.culprit.ensures ∙ ap (λ xs. culprit xs place load c.named-named.result) group;
       word = c.same_word.ensures ∙ ap (λ xs. same_word xs place load) group;
-      earlier = c.is_right_before.ensures ∙ ap (λ xs. option_map_or (is_right_at xs load) right false) group ∙ earlier_is es place load is stands right there_is none_is;
+      earlier = c.is_right_before.ensures ∙ ap (λ xs. is_right_earlier xs load) group ∙ earlier_in_group es load;
       next = c.store_after-next.ensures ∙ ap (λ xs. next_store xs place) group;
       later = search rules;
     }
