@@ -141,13 +141,13 @@ fn words(
     ensures drawn { IsTrue is_drawn → IfOk result (λ told. IsSome told.picture ↔ HasPicture told.verdict) }
 {
     let verdict = examined.verdict;
-    let line = format!(in alloc; "{verdict}\n")?;
     let why = reason(alloc, examined, programs, names.len())?;
-    let picture = picture_of(alloc, line.as_str(), &why, is_drawn)?;
+    let picture = picture_of(alloc, &verdict, &why, is_drawn)?;
     let more = more_text(alloc, names, &why, is_drawn && picture.is_none())?;
+    let text = text_of(alloc, &verdict, more.as_str(), last)?;
     Ok(Told {
         verdict,
-        text: text_of(line, more, last)?,
+        text,
         picture,
     })
 }
@@ -168,10 +168,10 @@ fn reason(
     }
 }
 
-/// The picture of why a verdict of this line is so, if it is to be drawn and can be.
+/// The picture of why a verdict is so, if it is to be drawn and can be.
 fn picture_of(
     alloc: Global,
-    line: &str,
+    verdict: &Verdict,
     why: &Explanation,
     is_drawn: bool,
 ) -> Result<Option<String>, AllocError>
@@ -181,8 +181,9 @@ fn picture_of(
     if !is_drawn {
         return Ok(None);
     }
+    let line = format!(in alloc; "{verdict}")?;
     let sentence = first_sentence(alloc, why)?;
-    draw_explanation(alloc, line.trim_end(), sentence.as_str(), why)
+    draw_explanation(alloc, line.as_str(), sentence.as_str(), why)
 }
 
 /// What there is to tell after the line of a verdict, and whether a picture that was asked for is left out.
@@ -200,10 +201,11 @@ fn more_text(
 }
 
 /// The line of a verdict, what there is to tell after it, and the last lines.
-fn text_of(mut line: String, why: String, last: &str) -> Result<String, AllocError>
-    ensures { IfOk result (λ text. string_bytes text ≡ string_bytes line ++ (string_bytes why ++ last.now)) }
+fn text_of(alloc: Global, verdict: &Verdict, why: &str, last: &str) -> Result<String, AllocError>
+    ensures { IfOk result (λ text. string_bytes text ≡ line (verdict_text verdict.now) ++ (why.now ++ last.now)) }
 {
-    line.push_str(why.as_str())?;
-    line.push_str(last)?;
-    Ok(line)
+    let mut text = format!(in alloc; "{verdict}\n")?;
+    text.push_str(why)?;
+    text.push_str(last)?;
+    Ok(text)
 }

@@ -35,16 +35,6 @@ impl AskedTrace {
         }
     }
 
-    /// A trace that has sources in place of words, and the one with the words.
-    fn sourced(trace: Trace, worded: Trace) -> AskedTrace
-        ensures { result.trace ≡ trace }
-    {
-        AskedTrace {
-            trace,
-            worded: Some(worded),
-        }
-    }
-
     /// The trace by which a proof is told: the one with the words, unless states are shown, which have those of the trace.
     pub(crate) fn told(&self, proof: &Answer) -> &Trace {
         match &self.worded {
@@ -121,5 +111,6 @@ fn read_sourced<F: Folder>(
 {
     let logs = read_log_files(alloc, folder, names)?;
     let trace = sourced_trace(alloc, logs.as_slice())?;
-    Ok(AskedTrace::sourced(trace, trace_of(alloc, logs.as_slice())?))
+    let worded = Some(trace_of(alloc, logs.as_slice())?);
+    Ok(AskedTrace { trace, worded })
 }
