@@ -1,6 +1,5 @@
 pub mod Asking
 pub mod Files
 pub mod Grammar
-pub mod Misuses
 pub mod RunFiles
 pub mod inner

@@ -1,7 +1,7 @@
 //! What a command line asks for.
 
 /// What a command line asks for.
-#[derive(Debug, Drop)]
+#[derive(Drop)]
 pub enum Request<'a> {
     /// The verdict on a set of logs.
     Check(Check<'a>),
@@ -32,7 +32,7 @@ pub enum Request<'a> {
 }
 
 /// Asks for the verdict on a set of logs.
-#[derive(Debug, Drop)]
+#[derive(Drop)]
 pub struct Check<'a> {
     /// How many workers judge it.
     pub workers: u64,
@@ -43,14 +43,14 @@ pub struct Check<'a> {
 }
 
 /// Asks for the verdict on a set of logs, and for the order of one that gets Yes.
-#[derive(Debug, Drop)]
+#[derive(Drop)]
 pub struct Order<'a> {
     /// The names of its files, that of core 0 first.
     pub files: Vec<&'a str>,
 }
 
 /// Asks for the verdict on a set of logs, and for what there is to tell of it.
-#[derive(Debug, Drop)]
+#[derive(Drop)]
 pub struct Explain<'a> {
     /// What is judged, by one worker.
     pub check: Check<'a>,
@@ -61,7 +61,7 @@ pub struct Explain<'a> {
 }
 
 /// What a file that isn't a log has to be.
-#[derive(Clone, Copy, Debug, PartialEq, Eq)]
+#[derive(Clone, Copy)]
 pub enum FileKind {
     /// A litmus test.
     Litmus,
@@ -72,7 +72,7 @@ pub enum FileKind {
 }
 
 /// Asks whether a file is what it has to be.
-#[derive(Debug, Drop)]
+#[derive(Drop)]
 pub struct Inspect<'a> {
     /// What it has to be.
     pub kind: FileKind,
@@ -81,7 +81,7 @@ pub struct Inspect<'a> {
 }
 
 /// Asks for a set of logs in format 2.
-#[derive(Debug, Drop)]
+#[derive(Drop)]
 pub struct Upgrade<'a> {
     /// What the names of the logs that are written begin with.
     pub out: &'a str,
@@ -90,7 +90,7 @@ pub struct Upgrade<'a> {
 }
 
 /// Asks for a run of the machine, one event after the other, and its logs.
-#[derive(Debug, Drop)]
+#[derive(Drop)]
 pub struct Sim<'a> {
     /// The numbers of the machine.
     pub limits: Limits,
@@ -111,7 +111,7 @@ pub struct Sim<'a> {
 }
 
 /// Asks for a run of the machine, each core in a thread of its own, and its logs.
-#[derive(Debug, Drop)]
+#[derive(Drop)]
 pub struct Run<'a> {
     /// The numbers of the machine.
     pub limits: Limits,
@@ -124,7 +124,7 @@ pub struct Run<'a> {
 }
 
 /// Asks for runs of a litmus test, and the table of their outcomes.
-#[derive(Debug, Drop)]
+#[derive(Drop)]
 pub struct LitmusRuns<'a> {
     /// The numbers of the machine.
     pub limits: Limits,
@@ -143,7 +143,7 @@ pub struct LitmusRuns<'a> {
 }
 
 /// The files that a trace is in.
-#[derive(Debug, Drop)]
+#[derive(Drop)]
 pub enum TraceFiles<'a> {
     /// The trace itself, in the file of this name.
     One(&'a str),
@@ -154,7 +154,7 @@ pub enum TraceFiles<'a> {
 }
 
 /// Asks whether a trace is consistent, by a search for an order or a refutation.
-#[derive(Debug, Drop)]
+#[derive(Drop)]
 pub struct Search<'a> {
     /// How many steps the search may make, if a number is given.
     pub budget: Option<u64>,
@@ -169,7 +169,7 @@ pub struct Search<'a> {
 }
 
 /// Asks whether a trace is consistent, by a certificate alone; or whether the certificate is one of the trace.
-#[derive(Debug, Drop)]
+#[derive(Drop)]
 pub struct Confirm<'a> {
     /// The name of the file of the certificate: an order or a refutation.
     pub certificate: &'a str,
@@ -178,7 +178,7 @@ pub struct Confirm<'a> {
 }
 
 /// Asks whether a trace is right in the order of its lines.
-#[derive(Debug, Drop)]
+#[derive(Drop)]
 pub struct Replay<'a> {
     /// Whether to tell, after a no, what should have been read.
     pub why: bool,
@@ -187,7 +187,7 @@ pub struct Replay<'a> {
 }
 
 /// The numbers of the machine.
-#[derive(Clone, Copy, Debug, PartialEq, Eq)]
+#[derive(Clone, Copy)]
 pub struct Limits {
     /// How many slices there are.
     pub slices: u64,

@@ -6,7 +6,7 @@ use Rattle.command_line.specs.declared.request.Check.{Check}
 use Rattle.core_program.specs.declared.instruction.Instruction.{Instruction}
 use Rattle.host_files.specs.Files.{Files, IsUnread}
 use Rattle.commands.specs.LogFiles.{AreTextsOf, IsOpenFault, IsUnreadAt}
-use Rattle.commands.proofs.LogFiles.{unopened_at}
+use Rattle.commands.proofs.LogFiles.{as_counted, unopened_at}
 use Rattle.verdict.specs.Counts.{IsInRange, IsOutOfRange}
 use Rattle.verdict.specs.Judgement.{IsYes, OnYes, SpellConsistentSet, SpellFlatRunBy}
 use Rattle.verdict.specs.declared.answer.Verdict.{Verdict}
@@ -22,7 +22,8 @@ use Rattle.commands.specs.declared.refusal.Refusal.{Refusal}
 -- a file can't be opened
 pub not_opened : {S : Type 0} (remaining : S → Option (List ℕ)) (failed : S → ℕ) (old new : Files) (programs : Option (List (List Instruction))) (asked : Check) (fault : JudgeFault) → AreInRange asked
     → IsOpenFault old new asked.files.items fault → IsCheckedAgainst old.told (IsUnread remaining failed old new) programs asked (Err fault)
-not_opened remaining failed old new programs asked (Read file) range why = (range, unopened_at remaining failed old new asked.files.items file why)
+not_opened remaining failed old new programs asked (BadConfig FileCount) range why = rw (as_counted asked.files) why.1
+not_opened remaining failed old new programs asked (Read file) range why = (range, unopened_at remaining failed old new asked.files.items file why.1)
 not_opened remaining failed old new programs asked OutOfMemory range why = tt
 not_opened remaining failed old new programs asked other range why = absurd why
 

@@ -11,7 +11,7 @@ use Rattle.commands.specs.SearchAnswers.{IsRightOf}
 use Rattle.commands.specs.Confirming.{Certifies, IsConfirmed}
 use Rattle.commands.proofs.Searches.{no_right}
 use Rattle.commands.specs.Traces.{AreTraceless, IsTraceIn, TellsTrace}
-use Rattle.commands.specs.inner.Looking.{IsLook, IsNoCertificate}
+use Rattle.commands.specs.inner.Looking.{IsLook}
 use Rattle.commands.specs.declared.search_answer.SearchAnswer.{SearchAnswer}
 use Rattle.commands.specs.declared.search_answer.SearchAnswer.TheVariants.{Yes, No, NoBySources}
 use Rattle.commands.specs.declared.place.Input.TheVariants as input
@@ -32,13 +32,6 @@ traceless old new unread asked (Unread input.Trace) is = is
 traceless old new unread asked (Judge fault) is = is
 traceless old new unread asked OutOfMemory is = tt
 traceless old new unread asked other is = absurd is
-
--- the certificate can't be read
-pub uncertified : (old new : Files) (unread : List ℕ → Type 0) (asked : Confirm) (cores : List (List Operation)) (fault : Refusal) → IsTraceIn old.told asked.trace cores
-    → IsNoCertificate unread asked.certificate.now fault → IsConfirmed old new unread asked (Err fault)
-uncertified old new unread asked cores (Unread input.Certificate) is why = ((cores, is, tt), why)
-uncertified old new unread asked cores OutOfMemory is why = tt
-uncertified old new unread asked cores other is why = absurd why
 
 -- it doesn't hold
 refused : (old new : Files) (unread : List ℕ → Type 0) (asked : Confirm) (cores : List (List Operation)) (text : List ℕ) (fault : Refusal)

@@ -1,7 +1,8 @@
 -- Files that are opened, what their sources tell, and why they tell no logs.
-use Rattle.std.proofs.Common.{◌≡◌, ◌+◌, ◌<◌, ℕ, zero, suc, List, [], ◌∷◌, ◌++◌, Option, None, Some, Err, add-one, arith, inl, inr, length, refl, slice_index_or, subst, take}
+use Rattle.std.proofs.Common.{◌≡◌, ◌+◌, ◌<◌, ℕ, zero, suc, List, [], ◌∷◌, ◌++◌, Option, None, Some, Err, add-one, arith, inl, inr, length, refl, slice_index_or, subst, take, vec_len}
 use Rattle.std.specs.Prelude.{◌↔◌, IfSome, IsErrOf, IsOk, IsTrue, slice_get}
 use Rattle.std.specs.Borrow.{Bor}
+use Rattle.std.specs.Global.{Vec}
 use Rattle.std.specs.List.{AllZip}
 use Rattle.std.proofs.Math.Seq.{take-suc}
 use Rattle.std.proofs.lemmas.List.{get_or_default}
@@ -13,9 +14,11 @@ use Rattle.verdict.specs.Counts.{IsBadCount, IsInRange, IsOutOfRange}
 use Rattle.verdict.specs.SetFaults.{from_set}
 use Rattle.verdict.specs.declared.judge_fault.Count.TheVariants.{Files as FileCount, Workers, Programs as ProgramCount}
 use Rattle.verdict.specs.declared.judge_fault.JudgeFault.{JudgeFault}
-use Rattle.verdict.specs.declared.judge_fault.JudgeFault.TheVariants.{BadConfig, Log, Read, OutOfMemory}
-use Rattle.host_files.specs.Files.{Files, IsFirstRefused, IsOnlyRead, IsUnread, refusing}
-use Rattle.commands.specs.LogFiles.{AreSourcesOf, AreTextsOf, IsOpenFault, IsUnreadAt, IsUnspelled}
+use Rattle.verdict.specs.declared.judge_fault.JudgeFault.TheVariants.{BadConfig, Read, OutOfMemory}
+use Rattle.host_files.specs.Files.{Files, IsFirstRefused, IsUnread, refusing}
+use Rattle.commands.specs.LogFiles.{AreSourcesOf, AreTextsOf, IsOpenFault, IsUnreadAt}
+use Rattle.commands.specs.Refusals.{from_judge}
+use Rattle.commands.specs.inner.ReadTraces.{AreLogless}
 use Rattle.commands.proofs.Files.{first_refused}
 
 -- the next file's source, after those of the files before it
@@ -88,26 +91,19 @@ unopened_at remaining failed old new names file (there, refused) = (there, λ d.
 -- ---- no logs are read
 
 pub unopened_files : {S : Type 0} (remaining : S → Option (List ℕ)) (failed : S → ℕ) (old new : Files) (names : List (Bor (List ℕ))) (fault : JudgeFault) → IsOpenFault old new names fault
-    → IsOnlyRead old new → IsUnspelled old new (IsUnread remaining failed old new) names fault
-unopened_files remaining failed old new names (Read file) why read = (read, unopened_at remaining failed old new names file why)
-unopened_files remaining failed old new names OutOfMemory why read = read
-unopened_files remaining failed old new names (BadConfig count) why read = absurd why
-unopened_files remaining failed old new names (Log file line fault) why read = absurd why
+    → AreLogless old.told (IsUnread remaining failed old new) names (from_judge fault)
+unopened_files remaining failed old new names (BadConfig FileCount) why = why.1
+unopened_files remaining failed old new names (Read file) why = (why.0, unopened_at remaining failed old new names file why.1)
+unopened_files remaining failed old new names OutOfMemory why = tt
+unopened_files remaining failed old new names other why = absurd why
 
 -- the set has a fault
-pub faulty : (old new : Files) (unread : List ℕ → Type 0) (names : List (Bor (List ℕ))) (texts : List (List ℕ)) (file : ℕ) (fault : LogFault)
-    → new ≡ old → AreTextsOf old.told names texts → IsSetFault texts file fault → (fault ≡ ReadFailed → IsUnreadAt unread names file)
-    → IsUnspelled old new unread names (from_set file fault)
-faulty old new unread names texts file (At line fault) same tell is reads = (same, texts, tell, is)
-faulty old new unread names texts file NoLogMemory same tell is reads = inl same
-faulty old new unread names texts file ReadFailed same tell is reads = (inl same, reads refl)
-
--- and the folder was only read
-pub only_read : (old new : Files) (unread : List ℕ → Type 0) (names : List (Bor (List ℕ))) (fault : JudgeFault) → IsUnspelled old new unread names fault → IsOnlyRead old new
-only_read old new unread names (Log file line fault) why = inl why.0
-only_read old new unread names (Read file) why = why.0
-only_read old new unread names OutOfMemory why = why
-only_read old new unread names (BadConfig count) why = absurd why
+pub faulty : (told : List ℕ → Option (List ℕ)) (unread : List ℕ → Type 0) (names : List (Bor (List ℕ))) (texts : List (List ℕ)) (file : ℕ) (fault : LogFault) → IsInRange (length names)
+    → AreTextsOf told names texts → IsSetFault texts file fault → (fault ≡ ReadFailed → IsUnreadAt unread names file)
+    → AreLogless told unread names (from_judge (from_set file fault))
+faulty told unread names texts file (At line fault) range tell is reads = (range, texts, tell, is)
+faulty told unread names texts file NoLogMemory range tell is reads = tt
+faulty told unread names texts file ReadFailed range tell is reads = (range, reads refl)
 
 -- ---- how many files there are
 
@@ -118,18 +114,21 @@ in_range n not =
     let few : 64 < n → ⊥ = λ h. not (inr h) in
     (omega (arith, some), omega (arith, few))
 
+-- the names of a list, counted by its length
+pub as_counted : (names : Vec (Bor (List ℕ))) → vec_len names ≡ length names.items
+as_counted names = let filled = names.ok in omega (arith, filled)
+
 one_in_range : ¬ (IsOutOfRange 1)
 one_in_range (inl few) = absurd (omega (arith, few))
 one_in_range (inr many) = absurd (omega (arith, many))
 
 -- for one worker, counts are refused for the number of files alone
-pub files_refused : (n : ℕ) (fault : JudgeFault) → (IsOk {T = Unit {0}} (Err fault) ↔ (IsInRange n × IsInRange 1)) → IsBadCount fault
-    → (IsErrOf {T = Unit {0}} (Err fault) (BadConfig FileCount) ↔ IsOutOfRange n)
-    → (IsErrOf {T = Unit {0}} (Err fault) (BadConfig Workers) ↔ (IsInRange n × IsOutOfRange 1))
-    → (fault ≡ BadConfig FileCount) × IsOutOfRange n
-files_refused n (BadConfig FileCount) ok bad files workers = (refl, files.0 refl)
-files_refused n (BadConfig Workers) ok bad files workers = absurd (one_in_range (workers.0 refl).1)
-files_refused n (BadConfig ProgramCount) ok bad files workers =
-    let fine = in_range n (λ out. let wrong : BadConfig ProgramCount ≡ BadConfig FileCount = cc (files.1 out) in absurd cc) in
+pub not_counted : (old : Files) (names : List (Bor (List ℕ))) (fault : JudgeFault) → (IsOk {T = Unit {0}} (Err fault) ↔ (IsInRange (length names) × IsInRange 1)) → IsBadCount fault
+    → (IsErrOf {T = Unit {0}} (Err fault) (BadConfig FileCount) ↔ IsOutOfRange (length names))
+    → (IsErrOf {T = Unit {0}} (Err fault) (BadConfig Workers) ↔ (IsInRange (length names) × IsOutOfRange 1)) → IsOpenFault old old names fault
+not_counted old names (BadConfig FileCount) ok bad files workers = (refl, files.0 refl)
+not_counted old names (BadConfig Workers) ok bad files workers = absurd (one_in_range (workers.0 refl).1)
+not_counted old names (BadConfig ProgramCount) ok bad files workers =
+    let fine = in_range (length names) (λ out. let wrong : BadConfig ProgramCount ≡ BadConfig FileCount = cc (files.1 out) in absurd cc) in
     absurd (let wrong = ok.1 (fine, in_range 1 one_in_range) in cc)
-files_refused n other ok bad files workers = absurd bad
+not_counted old names other ok bad files workers = absurd bad

@@ -7,9 +7,8 @@ use Rattle.host_files.specs.Files.{Files, KeepsFiles}
 use Rattle.commands.specs.Logs.{ArePut, ArePutUpTo, IsUnwritten, KeepsOthers}
 use Rattle.commands.specs.Outputs.{IsNameOf}
 use Rattle.commands.specs.Numbers.{AreLeftAsFar, IsLeftName, IsUnleft, IsUnput}
-use Rattle.commands.specs.declared.place.Output.TheVariants as output
 use Rattle.commands.specs.declared.refusal.Refusal.{Refusal}
-use Rattle.commands.specs.declared.refusal.Refusal.TheVariants.{LogUnwritten, OutOfMemory, Unwritten}
+use Rattle.commands.specs.declared.refusal.Refusal.TheVariants.{LogUnwritten, OutOfMemory}
 
 -- what is put first and then is put in all
 pub keeps_both : (told mid new : List ℕ → Option (List ℕ)) (out : List ℕ) (statistics : Option (Bor (List ℕ))) → KeepsOthers told mid out 64
@@ -34,11 +33,9 @@ module _ (format : Format) (old mid new : Files) (out : List ℕ) (cores : ℕ) 
     (put : ArePut format old mid out cores made) where
   -- the numbers weren't put
   pub unleft_after : (fault : Refusal) → IsUnput mid new statistics fault → IsUnleft format old new out cores made statistics fault
-  unleft_after (Unwritten output.Statistics) fails = (mid, put, fails)
-  unleft_after OutOfMemory why = tt
-  unleft_after other why = absurd why
+  unleft_after fault (inl (is, fails)) = subst (IsUnleft format old new out cores made statistics) (sym is) (mid, put, fails)
+  unleft_after fault (inr (is, same)) = subst (IsUnleft format old new out cores made statistics) (sym is) tt
 
   pub far_after : (fault : Refusal) → IsUnput mid new statistics fault → AreLeftAsFar format old new out cores made statistics text
-  far_after (Unwritten output.Statistics) fails = inr (mid, put, inr fails)
-  far_after OutOfMemory why = inl (inl (subst (λ (files : Files). ArePut format old files out cores made) (sym why) put))
-  far_after other why = absurd why
+  far_after fault (inl (is, fails)) = inr (mid, put, inr fails)
+  far_after fault (inr (is, same)) = inl (inl (subst (λ (files : Files). ArePut format old files out cores made) (sym same) put))

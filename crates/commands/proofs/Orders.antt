@@ -1,5 +1,5 @@
 -- The order of files, by what the judge that merges answers to their sources.
-use Rattle.std.proofs.Common.{◌≡◌, ◌<◌, refl, subst, sym, length, ℕ, List, [], ◌∷◌, ◌++◌, length-append, Option, Result, Ok, Err, vec_len, arith}
+use Rattle.std.proofs.Common.{◌≡◌, ◌<◌, refl, length, ℕ, List, [], ◌∷◌, ◌++◌, length-append, Option, Result, Ok, Err, vec_len, arith}
 use Rattle.std.specs.Fmt.{decimal}
 use Rattle.std.specs.Prelude.{codes, IfErr, IfOk, IfSome, IsErrOf}
 use Rattle.std.proofs.KnownBytes.{Appends-nil}
@@ -19,7 +19,7 @@ use Rattle.verdict.specs.declared.judge_fault.JudgeFault.{JudgeFault}
 use Rattle.verdict.specs.declared.judge_fault.JudgeFault.TheVariants.{BadConfig, Log, Read, OutOfMemory}
 use Rattle.host_files.specs.Files.{Files, IsUnread}
 use Rattle.commands.specs.LogFiles.{AreSourcesOf, AreTextsOf, IsOpenFault, IsUnreadAt}
-use Rattle.commands.proofs.LogFiles.{unopened_at, unread_at}
+use Rattle.commands.proofs.LogFiles.{as_counted, unopened_at, unread_at}
 use Rattle.commands.specs.Checking.{TextsAreConsistent}
 use Rattle.commands.specs.Ordering.{IsOrdered, TakesOrder}
 use Rattle.commands.specs.Sinks.{HasFailed, Sink, Took}
@@ -34,19 +34,13 @@ some_text = omega (arith, length-append (codes "end ") (decimal 0 ++ 10 ∷ []))
 nothing : (sink : Sink) → Took sink sink LacksEnd
 nothing sink = ([], Appends-nil sink.contents, ([], (0, some_text, refl)))
 
--- no file was opened, since their number is out of range
-pub not_counted : (told : List ℕ → Option (List ℕ)) (unread : List ℕ → Type 0) (asked : Order) (sink : Sink) (n : ℕ) (fault : JudgeFault) → n ≡ vec_len asked.files
-    → (fault ≡ BadConfig FileCount) × IsOutOfRange n → IsOrdered told unread asked sink sink (Err (from_judge fault))
-not_counted told unread asked sink n fault same (is, out) =
-    subst (λ (f : JudgeFault). IsOrdered told unread asked sink sink (Err (from_judge f))) (sym is) (subst IsOutOfRange same out, nothing sink)
-
--- a file can't be opened
-pub not_opened : {S : Type 0} (remaining : S → Option (List ℕ)) (failed : S → ℕ) (old new : Files) (asked : Order) (sink : Sink) (fault : JudgeFault) → IsInRange (vec_len asked.files)
+-- the files can't be opened
+pub not_opened : {S : Type 0} (remaining : S → Option (List ℕ)) (failed : S → ℕ) (old new : Files) (asked : Order) (sink : Sink) (fault : JudgeFault)
     → IsOpenFault old new asked.files.items fault → IsOrdered old.told (IsUnread remaining failed old new) asked sink sink (Err (from_judge fault))
-not_opened remaining failed old new asked sink (Read file) range why =
-    ((range, unopened_at remaining failed old new asked.files.items file why), nothing sink)
-not_opened remaining failed old new asked sink OutOfMemory range why = (tt, nothing sink)
-not_opened remaining failed old new asked sink other range why = absurd why
+not_opened remaining failed old new asked sink (BadConfig FileCount) why = (rw (as_counted asked.files) why.1, nothing sink)
+not_opened remaining failed old new asked sink (Read file) why = ((rw (as_counted asked.files) why.0, unopened_at remaining failed old new asked.files.items file why.1), nothing sink)
+not_opened remaining failed old new asked sink OutOfMemory why = (tt, nothing sink)
+not_opened remaining failed old new asked sink other why = absurd why
 
 abbrev pub lifted : Result Verdict MergeFault → Result Verdict Refusal
 lifted (Ok verdict) = Ok verdict

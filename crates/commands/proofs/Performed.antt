@@ -1,6 +1,6 @@
 -- What a request came to, from what its command answered, and what a call promises of it.
-use Rattle.std.proofs.Common.{arith, rules, ◌≡◌, ◌≤◌, ◌⊎◌, ◌∙◌, ap, subst, sym, refl, ℕ, true, false, List, Option, None, Some, Result, Ok, Err, inl, inr}
-use Rattle.std.specs.Prelude.{◌-◌, IfErr, IfOk}
+use Rattle.std.proofs.Common.{arith, rules, ◌≡◌, ◌≤◌, ◌⊎◌, ◌∙◌, ap, subst, sym, ℕ, true, false, List, Option, None, Some, Result, Ok, Err, inl, inr}
+use Rattle.std.specs.Prelude.{IfErr, IfOk}
 use Rattle.std.specs.Borrow.{Bor}
 use Rattle.std.specs.Option.{IsSomeAnd}
 use Rattle.command_line.specs.declared.request.Check.{Check}
@@ -16,15 +16,13 @@ use Rattle.verdict.specs.Judgement.{IsYes}
 use Rattle.verdict.specs.Statuses.{verdict_status}
 use Rattle.verdict.specs.declared.answer.Verdict.{Verdict}
 use Rattle.verdict.specs.declared.answer.Verdict.TheVariants.{Yes, No}
-use Rattle.verdict.specs.declared.judge_fault.JudgeFault.{JudgeFault}
 use Rattle.verdict.specs.declared.judge_fault.JudgeFault.TheVariants.{Read}
 use Rattle.commands.proofs.Files.{keeps_told, still_first}
-use Rattle.commands.proofs.Refused.{IsOfTable}
 use Rattle.commands.specs.Answers.{answer_status}
 use Rattle.commands.specs.Checking.{FilesGetNo, IsChecked}
 use Rattle.commands.specs.Ordering.{IsOrdered, TextsGetNo}
 use Rattle.commands.specs.Promises.{AreWrong, IsPutName, IsRefused, IsRefusedCall, IsUnended, IsUnreadThere, LeavesSoFar, file_at}
-use Rattle.commands.specs.Refusals.{judge_fault_status, refusal_status, refusal_text}
+use Rattle.commands.specs.Refusals.{refusal_status, refusal_text}
 use Rattle.commands.specs.Replaying.{IsOutOfOrder, IsReplayedBy, TellsText}
 use Rattle.commands.specs.SearchAnswers.{IsRightOf, search_status}
 use Rattle.trace_replay.specs.Texts.{verdict_status as replay_status}
@@ -36,7 +34,7 @@ use Rattle.commands.specs.Upgrading.{IsUpgraded, LeavesAnew}
 use Rattle.commands.specs.declared.answer.CommandAnswer.{CommandAnswer}
 use Rattle.commands.specs.declared.answer.CommandAnswer.TheVariants.{Judged, Ordered, Explained, Readable, Searched, Certified, Replayed, Counted, Done, Version}
 use Rattle.commands.specs.declared.refusal.Refusal.{Refusal}
-use Rattle.commands.specs.declared.refusal.Refusal.TheVariants.{Judge, Collect, Unread, Unwritten, OutOfMemory}
+use Rattle.commands.specs.declared.refusal.Refusal.TheVariants.{Judge, Unread, Unwritten, OutOfMemory}
 use Rattle.commands.specs.declared.search_answer.SearchAnswer.{SearchAnswer}
 use Rattle.commands.specs.declared.search_answer.SearchAnswer.TheVariants as searched
 use Rattle.commands.specs.inner.Performing.{Came, IsRight, IsToldMore, IsUnprinted}
@@ -98,14 +96,6 @@ not_refused X answer status same two = absurd (low answer (subst (λ (n : ℕ). 
 
 -- ---- what the status of a refusal says
 
-judge_not_one : (fault : JudgeFault) → ¬ (judge_fault_status fault ≡ 1)
-judge_not_one fault one = search rules
-
-pub of_table : (refusal : Refusal) → refusal_status refusal ≡ 1 → IsOfTable refusal
-of_table (Collect fault) one = tt
-of_table (Judge fault) one = absurd (judge_not_one fault one)
-of_table other one = cc
-
 not_zero : (refusal : Refusal) → ¬ (refusal_status refusal ≡ 0)
 not_zero refusal zero = search rules
 
@@ -149,13 +139,6 @@ unprinted_not_one OutOfMemory is one = cc
 unprinted_not_one other is one = absurd is
 
 module _ (old new : Files) (Unreadable : List ℕ → Type 0) (out out' : Sink) (asked : Request) where
-  pub refused : (refusal : Refusal) (came : Result CommandAnswer Refusal) → came ≡ Err refusal → KeepsFiles old.told new.told (IsPutName asked)
-      → IsRefused old new Unreadable out out' asked refusal → (refusal_status refusal ≡ 1 → AreWrong old.told out out' asked) → Came old new Unreadable out out' asked came
-  refused refusal (Ok answer) is files why one = cc
-  refused refusal (Err own) is files why one =
-      let same : own ≡ refusal = cc in
-      record { files = files; right = tt; wrong = tt; refused = subst (IsRefused old new Unreadable out out' asked) (sym same) why; refuted = λ status. one (sym (ap refusal_status same) ∙ status) }
-
   pub answered : (answer : CommandAnswer) → KeepsFiles old.told new.told (IsPutName asked) → (answer_status answer ≡ 0 → IsRight old new out out' asked)
       → (answer_status answer ≡ 1 → AreWrong old.told out out' asked) → Came old new Unreadable out out' asked (Ok answer)
   answered answer files right wrong = record { files = files; right = right; wrong = wrong; refused = tt; refuted = tt }
@@ -167,7 +150,7 @@ module _ (old new : Files) (Unreadable : List ℕ → Type 0) (out out' : Sink) 
   printed answer (Ok own) is why files right wrong unended =
       answered own files (λ zero. right (sym (ap answer_status is) ∙ zero)) (λ one. wrong (sym (ap answer_status is) ∙ one))
   printed answer (Err refusal) is why files right wrong unended =
-      refused refusal (Err refusal) refl files (unprinted old new Unreadable out out' asked refusal why unended) (λ one. absurd (unprinted_not_one refusal why one))
+      record { files = files; right = tt; wrong = tt; refused = unprinted old new Unreadable out out' asked refusal why unended; refuted = λ one. absurd (unprinted_not_one refusal why one) }
 
 -- ---- after more was told of a refusal
 

@@ -57,8 +57,8 @@ given_up old new unread asked cores other is same why = absurd why
 -- what holds where a put failed and where memory ran out holds of the fault that tells it
 unput_at : (P : Refusal → Type 0) (unwritten : Refusal) (old new : Files) (name : Option (Bor (List ℕ))) (fault : Refusal) → IsUnputAt unwritten old new name fault
     → (FailsPutAt old new name → P unwritten) → P OutOfMemory → P fault
-unput_at P unwritten old new name OutOfMemory why failed memory = memory
-unput_at P unwritten old new name fault why failed memory = subst P (sym why.0) (failed why.1)
+unput_at P unwritten old new name fault (inl why) failed memory = subst P (sym why.0) (failed why.1)
+unput_at P unwritten old new name fault (inr is) failed memory = subst P (sym is) memory
 
 -- what was found isn't put
 pub unput : (old new : Files) (unread : List ℕ → Type 0) (asked : Search) (cores : List (List Operation)) (proof : Answer) (fault : Refusal)

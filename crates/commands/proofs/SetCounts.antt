@@ -1,5 +1,5 @@
 -- How many operations a set has.
-use Rattle.std.proofs.Common.{◌≡◌, ◌∙◌, ◌+◌, ap, sym, ℕ, suc, List, [], ◌∷◌, arith, length, length-append, map, refl}
+use Rattle.std.proofs.Common.{◌≡◌, ◌∙◌, ap, sym, ℕ, suc, List, [], ◌∷◌, arith, length, length-append, map, refl}
 use Rattle.std.specs.Prelude.{IsPermutation, sum, sum_by}
 use Rattle.std.proofs.lemmas.List.{length-map}
 use Rattle.std.proofs.lemmas.List.Sorted.{length_permutation}

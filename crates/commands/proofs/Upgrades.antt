@@ -8,32 +8,22 @@ use Rattle.command_line.specs.declared.request.Upgrade.{Upgrade}
 use Rattle.log_record.specs.Entries.{record_lists}
 use Rattle.log_record.specs.declared.format.Format.TheVariants.{Two}
 use Rattle.log_record.specs.declared.record.Record.{Record}
-use Rattle.verdict.specs.Counts.{IsInRange, IsOutOfRange}
-use Rattle.verdict.specs.declared.judge_fault.Count.TheVariants.{Files as FileCount}
-use Rattle.verdict.specs.declared.judge_fault.JudgeFault.{JudgeFault}
-use Rattle.verdict.specs.declared.judge_fault.JudgeFault.TheVariants.{BadConfig, Log, Read, OutOfMemory}
-use Rattle.host_files.specs.Files.{Files}
-use Rattle.commands.specs.LogFiles.{IsUnspelled, Spelled}
+use Rattle.verdict.specs.Counts.{IsInRange}
+use Rattle.host_files.specs.Files.{Files, IsOnlyRead}
+use Rattle.commands.specs.LogFiles.{Spelled}
 use Rattle.commands.specs.Logs.{ArePut, ArePutUpTo, IsUnwritten, performed_below}
 use Rattle.commands.specs.Upgrading.{IsUpgraded, log_in}
 use Rattle.commands.specs.inner.ReadLogs.{read_log_of}
-use Rattle.commands.specs.Refusals.{from_judge}
+use Rattle.commands.specs.inner.ReadTraces.{AreLogless}
 use Rattle.commands.specs.declared.refusal.Refusal.{Refusal}
-use Rattle.commands.specs.declared.refusal.Refusal.TheVariants.{LogUnwritten, OutOfMemory as NoMemory}
-
--- no file was opened, since their number is out of range
-pub not_counted : (old : Files) (unread : List ℕ → Type 0) (asked : Upgrade) (n : ℕ) (fault : JudgeFault) → n ≡ vec_len asked.files
-    → (fault ≡ BadConfig FileCount) × IsOutOfRange n → IsUpgraded old old unread asked (Err (from_judge fault))
-not_counted old unread asked n fault same (is, out) =
-    subst (λ (f : JudgeFault). IsUpgraded old old unread asked (Err (from_judge f))) (sym is) (refl, subst IsOutOfRange same out)
+use Rattle.commands.specs.declared.refusal.Refusal.TheVariants.{Judge, LogUnwritten, OutOfMemory as NoMemory}
 
 -- the files weren't read
-pub not_read : (old new : Files) (unread : List ℕ → Type 0) (asked : Upgrade) (fault : JudgeFault) → IsInRange (vec_len asked.files)
-    → IsUnspelled old new unread asked.files.items fault → IsUpgraded old new unread asked (Err (from_judge fault))
-not_read old new unread asked (Log file line fault) range why = (range, why)
-not_read old new unread asked (Read file) range why = (range, why)
-not_read old new unread asked OutOfMemory range why = tt
-not_read old new unread asked (BadConfig count) range why = absurd why
+pub not_read : (old new : Files) (unread : List ℕ → Type 0) (asked : Upgrade) (refusal : Refusal) → AreLogless old.told unread asked.files.items refusal → IsOnlyRead old new
+    → IsUpgraded old new unread asked (Err refusal)
+not_read old new unread asked (Judge fault) why read = (why, read)
+not_read old new unread asked NoMemory why read = tt
+not_read old new unread asked other why read = absurd why
 
 -- ---- the logs that were read
 

@@ -3,11 +3,13 @@ use Rattle.std.specs.Prelude.{◌≡◌, ◌<◌, ⊤, ℕ, List, length, Option
 use Rattle.std.specs.Borrow.{Bor}
 use Rattle.std.specs.List.{AllZip, HoldsAt}
 use Rattle.log_file.specs.Devices.{Tells}
-use Rattle.log_file.specs.Sets.{IsFirstOfSet, SpellSet}
+use Rattle.log_file.specs.Sets.{SpellSet}
 use Rattle.log_record.specs.declared.record.Record.{Record}
+use Rattle.verdict.specs.Counts.{IsInRange, IsOutOfRange}
+use Rattle.verdict.specs.declared.judge_fault.Count.TheVariants.{Files as FileCount}
 use Rattle.verdict.specs.declared.judge_fault.JudgeFault.{JudgeFault}
-use Rattle.verdict.specs.declared.judge_fault.JudgeFault.TheVariants.{Log, Read, OutOfMemory}
-use Rattle.host_files.specs.Files.{Files, IsFirstRefused, IsOnlyRead}
+use Rattle.verdict.specs.declared.judge_fault.JudgeFault.TheVariants.{BadConfig, Read, OutOfMemory}
+use Rattle.host_files.specs.Files.{Files, IsFirstRefused}
 
 -- these are sources of the files of these names: each tells the bytes that the folder tells, if it tells any
 abbrev pub AreSourcesOf : {S : Type 0} → (List ℕ → Option (List ℕ)) → (S → Option (List ℕ)) → List S → List (Bor (List ℕ)) → Type 0
@@ -28,17 +30,9 @@ Spelled told names Holds =
 abbrev pub IsUnreadAt : (List ℕ → Type 0) → List (Bor (List ℕ)) → ℕ → Type 0
 IsUnreadAt unread names file = (file < length names) × HoldsAt (λ name. unread name.now) names file
 
--- this file was the first that the folder refused, or memory ran out
+-- the files aren't 1 to 64, or this one was the first that the folder refused, or memory ran out
 abbrev pub IsOpenFault : Files → Files → List (Bor (List ℕ)) → JudgeFault → Type 0
-IsOpenFault old new names (Read file) = IsUnreadAt (IsFirstRefused old new) names file
+IsOpenFault old new names (BadConfig FileCount) = (new ≡ old) × IsOutOfRange (length names)
+IsOpenFault old new names (Read file) = IsInRange (length names) × IsUnreadAt (IsFirstRefused old new) names file
 IsOpenFault old new names OutOfMemory = ⊤
 IsOpenFault old new names other = ⊥
-
--- Why no logs are read from the files of these names: the first fault of the set, a file that can't be opened or read (`unread` holds of its name),
--- or lack of memory. The folder is as it was, but it may have refused a file.
-abbrev pub IsUnspelled : Files → Files → (List ℕ → Type 0) → List (Bor (List ℕ)) → JudgeFault → Type 0
-IsUnspelled old new unread names (Log file line fault) =
-    (new ≡ old) × (texts : List (List ℕ)) × AreTextsOf old.told names texts × IsFirstOfSet texts file line fault
-IsUnspelled old new unread names (Read file) = IsOnlyRead old new × IsUnreadAt unread names file
-IsUnspelled old new unread names OutOfMemory = IsOnlyRead old new
-IsUnspelled old new unread names other = ⊥

@@ -25,9 +25,7 @@ IsLeftName out statistics name = IsLogName out name ⊎ IsNameOf statistics name
 
 -- why the numbers weren't put: the put failed, or memory ran out before it
 abbrev pub IsUnput : Files → Files → Option (Bor (List ℕ)) → Refusal → Type 0
-IsUnput old new statistics (Unwritten output.Statistics) = FailsPutAt old new statistics
-IsUnput old new statistics OutOfMemory = new ≡ old
-IsUnput old new statistics other = ⊥
+IsUnput old new statistics fault = ((fault ≡ Unwritten output.Statistics) × FailsPutAt old new statistics) ⊎ ((fault ≡ OutOfMemory) × (new ≡ old))
 
 -- the logs of all cores were put, and then this holds of the folder before and after
 abbrev pub AreLeftThen : Format → Files → Files → List ℕ → ℕ → (ℕ → List Record) → (Files → Files → Type 0) → Type 0

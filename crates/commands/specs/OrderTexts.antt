@@ -4,8 +4,9 @@ use Rattle.std.specs.List.{filter_map, AllByRecursion}
 use Rattle.flat_replay.specs.Memory.{IsAnsweredBy}
 use Rattle.mem_op.specs.Consistency.{Operation, IsSequentialOrder, last_value, operation_at}
 use Rattle.mem_op.specs.declared.id.OpId.{OpId}
-use Rattle.merge_judge.specs.OrderText.{end_line, id_line, id_lines, order_text}
-use Rattle.refutation.specs.Grammar.{IdFits}
+use Rattle.merge_judge.specs.OrderText.{end_line, order_text}
+use Rattle.refutation.specs.Grammar.{IdFits, id_text}
+use Rattle.text_lines.specs.Items.{ItemInFront, NoItemInFront, lines_of}
 
 -- The operation of this id can come next after those of the ids `before`. Its index is the number of these that are of its core, and a load or a swap
 -- finds in memory the word that it read.
@@ -31,14 +32,18 @@ abbrev pub IsFirstWrongPlace : List (List Operation) → List OpId → ℕ → T
 IsFirstWrongPlace cores ids place =
     IsFirstWrongId cores ids place ⊎ ((place ≡ length ids) × ComeInOrder cores ids place × ¬ (IsSequentialOrder cores ids))
 
+-- the bytes begin with an id's line, and these come after it
+abbrev pub IdInFront : OpId → List ℕ → List ℕ → Type 0
+IdInFront id bytes rest = ItemInFront id_text IdFits id bytes rest
+
 -- the bytes don't begin with an id's line
 abbrev pub NoIdInFront : List ℕ → Type 0
-NoIdInFront bytes = (id : OpId) (rest : List ℕ) → IdFits id → bytes ≢ id_line id ++ rest
+NoIdInFront bytes = NoItemInFront id_text IdFits bytes
 
 -- the bytes are the lines of these ids and then the rest, which doesn't begin with an id's line
 pub record BeginsWithIds (bytes : List ℕ) (ids : List OpId) (rest : List ℕ) : Type 0 where
   pub each_fits : AllByRecursion IdFits ids
-  pub text : bytes ≡ id_lines ids ++ rest
+  pub text : bytes ≡ lines_of id_text ids ++ rest
   pub none_in_front : NoIdInFront rest
 
 -- Either these ids aren't an order of all operations, or the `end` line with their number doesn't come after their lines: then it is this line that

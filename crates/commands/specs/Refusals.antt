@@ -41,29 +41,24 @@ use Rattle.commands.specs.declared.refusal.Refusal.TheVariants.{Judge, Programs,
 -- ---- the faults of the library, as refusals
 
 abbrev pub from_judge : JudgeFault → Refusal
-from_judge (judge.BadConfig count) = Judge (judge.BadConfig count)
-from_judge (judge.Log file line fault) = Judge (judge.Log file line fault)
-from_judge (judge.Read file) = Judge (judge.Read file)
 from_judge judge.OutOfMemory = OutOfMemory
+from_judge fault = Judge fault
 
 abbrev pub from_merge : MergeFault → Refusal
 from_merge (merge.Judge fault) = from_judge fault
 from_merge merge.Write = Unwritten output.Standard
 
 abbrev pub from_program : ProgramFault → Refusal
-from_program (program.BadLine line) = Programs (program.BadLine line)
-from_program (program.TooLong line) = Programs (program.TooLong line)
-from_program (program.SkipPastEnd line) = Programs (program.SkipPastEnd line)
 from_program program.OutOfMemory = OutOfMemory
+from_program fault = Programs fault
 
 abbrev pub from_trace : TraceFault → Refusal
-from_trace (trace.BadTraceLine line) = Trace (trace.BadTraceLine line)
-from_trace (trace.TooMany line) = Trace (trace.TooMany line)
 from_trace trace.OutOfMemory = OutOfMemory
+from_trace fault = Trace fault
 
 abbrev pub from_schedule : ScheduleFault → Refusal
-from_schedule (schedule.BadScheduleLine line) = Schedule (schedule.BadScheduleLine line)
 from_schedule schedule.OutOfMemory = OutOfMemory
+from_schedule fault = Schedule fault
 
 abbrev pub from_test : LitmusFault → Refusal
 from_test test.OutOfMemory = OutOfMemory

@@ -1,6 +1,6 @@
 -- The logs of a set with sources in place of their words. Each store gets a number of its own, and stores that. A load or a swap reads the number of
 -- the store that it names, or 0 if it names `init`; if its word can't come from there, it reads a number that no store has.
-use Rattle.std.specs.Prelude.{◌≡◌, ◌+◌, ◌*◌, ◌==◌, ◌&&◌, ◌≤◌, All, ℕ, suc, Bool, false, List, [], ◌∷◌, if◌then◌else◌, length, map}
+use Rattle.std.specs.Prelude.{◌+◌, ◌*◌, ◌==◌, ◌&&◌, ◌≤◌, All, ℕ, suc, Bool, false, List, [], ◌∷◌, if◌then◌else◌, length, map}
 use Rattle.std.specs.Option.{option_map_or}
 use Rattle.log_record.specs.Entries.{core_entries, operation_of, operations_of, record_at}
 use Rattle.log_record.specs.declared.act.Act.{Act}

@@ -4,12 +4,11 @@ use Rattle.std.specs.Option.{option_map_or}
 use Rattle.command_line.specs.declared.request.Upgrade.{Upgrade}
 use Rattle.log_record.specs.declared.format.Format.TheVariants.{Two}
 use Rattle.log_record.specs.declared.record.Record.{Record}
-use Rattle.verdict.specs.Counts.{IsInRange, IsOutOfRange}
-use Rattle.verdict.specs.declared.judge_fault.Count.TheVariants.{Files as FileCount}
-use Rattle.verdict.specs.declared.judge_fault.JudgeFault.TheVariants.{BadConfig, Log, Read}
-use Rattle.host_files.specs.Files.{Files}
-use Rattle.commands.specs.LogFiles.{IsUnspelled, Spelled}
+use Rattle.verdict.specs.Counts.{IsInRange}
+use Rattle.host_files.specs.Files.{Files, IsOnlyRead}
+use Rattle.commands.specs.LogFiles.{Spelled}
 use Rattle.commands.specs.Logs.{ArePut, ArePutUpTo, TellsFirst, performed_below}
+use Rattle.commands.specs.Traces.{AreNoLogs}
 use Rattle.commands.specs.declared.refusal.Refusal.{Refusal}
 use Rattle.commands.specs.declared.refusal.Refusal.TheVariants.{Judge, LogUnwritten, OutOfMemory as NoMemory}
 
@@ -29,11 +28,7 @@ IsUpgraded old new unread asked (Ok count) =
     IsInRange (vec_len asked.files)
     × Spelled old.told asked.files.items (λ logs. (count ≡ performed_below (log_in logs) (vec_len asked.files))
     × ArePut Two old new asked.out.now (vec_len asked.files) (log_in logs))
-IsUpgraded old new unread asked (Err (Judge (Log file line fault))) =
-    IsInRange (vec_len asked.files) × IsUnspelled old new unread asked.files.items (Log file line fault)
-IsUpgraded old new unread asked (Err (Judge (Read file))) =
-    IsInRange (vec_len asked.files) × IsUnspelled old new unread asked.files.items (Read file)
-IsUpgraded old new unread asked (Err (Judge (BadConfig FileCount))) = (new ≡ old) × IsOutOfRange (vec_len asked.files)
+IsUpgraded old new unread asked (Err (Judge fault)) = AreNoLogs old.told unread asked.files.items fault × IsOnlyRead old new
 IsUpgraded old new unread asked (Err (LogUnwritten file)) =
     IsInRange (vec_len asked.files)
     × Spelled old.told asked.files.items (λ logs. ArePutUpTo Two old new asked.out.now (vec_len asked.files) (log_in logs) file)

@@ -11,7 +11,7 @@ use trace_replay::ReplayVerdict;
 use verdict::Verdict;
 
 /// What a command answers.
-#[derive(Clone, Copy, Debug, PartialEq, Eq)]
+#[derive(Clone, Copy)]
 pub enum CommandAnswer {
     /// The verdict on a set of logs.
     Judged(Verdict),
@@ -40,7 +40,7 @@ const VERSION: &str = "tardis 1.0, proved with logic dac8208d650f15bf";
 
 impl CommandAnswer {
     /// The exit status: 1 for No and for a forbidden outcome, else 0.
-    pub fn status(&self) -> u8
+    pub(crate) fn status(&self) -> u8
         ensures { result ≡ answer_status self.now }
     {
         match self {

@@ -52,12 +52,10 @@ pub fn command<
         (promises.AreConsistent (F.files folder.old).told) }
     ensures flat { result ≡ 0 → promises.AskFor (texts words.entry.now)
         (promises.RunFlat (F.files folder.old).told) }
-    ensures no { result ≡ 1 → promises.AskFor (texts words.entry.now)
-        (promises.AreWrong (F.files folder.old).told (promises.sink_of O.contents O.failed out.old)
-        (promises.sink_of O.contents O.failed out.new)) }
-    ensures order { result ≡ 0 → promises.AskFor (texts words.entry.now)
-        (promises.AreOrdered (F.files folder.old).told (promises.sink_of O.contents O.failed out.old)
-        (promises.sink_of O.contents O.failed out.new)) }
+    ensures no { result ≡ 1 → promises.AskFor (texts words.entry.now) (promises.AreWrong (F.files folder.old).told
+        (promises.sink_of O.contents O.failed out.old) (promises.sink_of O.contents O.failed out.new)) }
+    ensures order { result ≡ 0 → promises.AskFor (texts words.entry.now) (promises.AreOrdered (F.files folder.old).told
+        (promises.sink_of O.contents O.failed out.old) (promises.sink_of O.contents O.failed out.new)) }
     ensures upgraded { result ≡ 0 → promises.AskFor (texts words.entry.now)
         (promises.AreUpgraded (F.files folder.old) (F.files folder.new)) }
     ensures yes { result ≡ 0 → promises.AskFor (texts words.entry.now)
@@ -65,15 +63,11 @@ pub fn command<
     ensures files { promises.KeepsFiles (F.files folder.old).told (F.files folder.new).told
         (λ name. promises.AskFor (texts words.entry.now) (λ asked. promises.IsPutUnread asked name)) }
     ensures refused { 2 ≤ result → promises.AreUnasked (F.files folder.old) (F.files folder.new)
-        (texts words.entry.now) (promises.sink_of O.contents O.failed out.old)
-        (promises.sink_of O.contents O.failed out.new) result
+        (texts words.entry.now) (promises.sink_of O.contents O.failed out.old) (promises.sink_of O.contents O.failed out.new) result
         ⊎ promises.AskFor (texts words.entry.now) (promises.IsRefusedCall (F.files folder.old) (F.files folder.new)
-        (IsUnread F.Source.remaining F.Source.failed
-        (F.files folder.old) (F.files folder.new))
-        (promises.sink_of O.contents O.failed out.old)
-        (promises.sink_of O.contents O.failed out.new)
-        (promises.sink_of E.contents E.failed err.old)
-        (promises.sink_of E.contents E.failed err.new) result) }
+        (IsUnread F.Source.remaining F.Source.failed (F.files folder.old) (F.files folder.new))
+        (promises.sink_of O.contents O.failed out.old) (promises.sink_of O.contents O.failed out.new)
+        (promises.sink_of E.contents E.failed err.old) (promises.sink_of E.contents E.failed err.new) result) }
 {
     let request = match read(alloc, words) {
         Ok(request) => request,
@@ -110,15 +104,13 @@ fn perform<
     out: &mut O,
 ) -> Result<CommandAnswer, Refusal>
     ensures { Came (F.files folder.old) (F.files folder.new)
-        (IsUnread F.Source.remaining F.Source.failed
-        (F.files folder.old) (F.files folder.new))
-        (promises.sink_of O.contents O.failed out.old)
-        (promises.sink_of O.contents O.failed out.new) request.now result }
+        (IsUnread F.Source.remaining F.Source.failed (F.files folder.old) (F.files folder.new))
+        (promises.sink_of O.contents O.failed out.old) (promises.sink_of O.contents O.failed out.new) request.now result }
 {
     match request {
         Request::Check(asked) => {
-            let verdict = check(rt, alloc, folder, asked)?;
-            print_answer(alloc, out, CommandAnswer::Judged(verdict))
+            let found = check(rt, alloc, folder, asked)?;
+            print_answer(alloc, out, CommandAnswer::Judged(found.verdict()))
         }
         Request::Order(asked) => Ok(CommandAnswer::Ordered(order(alloc, folder, asked, out)?)),
         Request::Explain(asked) => Ok(CommandAnswer::Explained(explain(

@@ -24,29 +24,19 @@ pub(crate) struct Found {
     pub(crate) programs: Option<ProgramSet>,
 }
 
-/// The verdict on the logs in files of the folder, against the programs in another where one is asked
-/// for, or why there is no answer: 6 of files and workers comes before a file is opened, the programs
-/// before the logs, and 28 of a log that can't be opened before one is read.
-pub fn check<R: Threads + Sync, F: Folder>(
-    rt: &R,
-    alloc: Global,
-    folder: &mut F,
-    asked: &Check<'_>,
-) -> Result<Verdict, Refusal>
-    ensures exact { checking.IsChecked (F.files folder.old).told
-        (IsUnread F.Source.remaining F.Source.failed
-        (F.files folder.old) (F.files folder.new)) asked.now result }
-    ensures quiet { OnOk result (F.files folder.new ≡ F.files folder.old) }
-    ensures read { IsOnlyRead (F.files folder.old) (F.files folder.new) }
-{
-    match examine_asked(rt, alloc, folder, asked) {
-        Ok(Found { examined, .. }) => Ok(examined.verdict),
-        Err(fault) => Err(fault),
+impl Found {
+    /// The verdict.
+    pub(crate) fn verdict(&self) -> Verdict
+        ensures { result ≡ self.now.examined.verdict }
+    {
+        self.examined.verdict
     }
 }
 
-/// The same, with what the verdict stands on.
-pub(crate) fn examine_asked<R: Threads + Sync, F: Folder>(
+/// The verdict on the logs in files of the folder, against the programs in another where one is asked
+/// for, with what it stands on, or why there is none: 6 of files and workers comes before a file is opened, the
+/// programs before the logs, and 28 of a log that can't be opened before one is read.
+pub(crate) fn check<R: Threads + Sync, F: Folder>(
     rt: &R,
     alloc: Global,
     folder: &mut F,
@@ -54,13 +44,9 @@ pub(crate) fn examine_asked<R: Threads + Sync, F: Folder>(
 ) -> Result<Found, Refusal>
     ensures exact { MatchResult result
         (λ found. checking.IsChecked (F.files folder.old).told
-        (IsUnread F.Source.remaining F.Source.failed
-        (F.files folder.old) (F.files folder.new))
-        asked.now (Ok found.examined.verdict))
+        (IsUnread F.Source.remaining F.Source.failed (F.files folder.old) (F.files folder.new)) asked.now (Ok found.examined.verdict))
         (λ fault. checking.IsChecked (F.files folder.old).told
-        (IsUnread F.Source.remaining F.Source.failed
-        (F.files folder.old) (F.files folder.new))
-        asked.now (Err fault)) }
+        (IsUnread F.Source.remaining F.Source.failed (F.files folder.old) (F.files folder.new)) asked.now (Err fault)) }
     ensures quiet { OnOk result (F.files folder.new ≡ F.files folder.old) }
     ensures read { IsOnlyRead (F.files folder.old) (F.files folder.new) }
     ensures examined { IfOk result (λ found. Spelled (F.files folder.old).told asked.now.files.items
@@ -81,8 +67,7 @@ fn read_given<F: Folder>(
     ensures ok { IfOk result (λ programs. checking.AreProgramsOf (F.files folder.old).told name.entry
         (option_map (λ set. set.programs) programs)) }
     ensures err { IfErr result (checking.IsUnprogrammedBy (F.files folder.old).told
-        (IsUnread F.Source.remaining F.Source.failed
-        (F.files folder.old) (F.files folder.new)) name.entry) }
+        (IsUnread F.Source.remaining F.Source.failed (F.files folder.old) (F.files folder.new)) name.entry) }
     ensures quiet { OnOk result (F.files folder.new ≡ F.files folder.old) }
     ensures read { IsOnlyRead (F.files folder.old) (F.files folder.new) }
 {
@@ -105,8 +90,7 @@ fn examine_files<R: Threads + Sync, F: Folder>(
 ) -> Result<Examined, JudgeFault>
     requires { checking.AreInRange asked.now }
     ensures exact { checking.IsCheckedAgainst (F.files folder.old).told
-        (IsUnread F.Source.remaining F.Source.failed
-        (F.files folder.old) (F.files folder.new))
+        (IsUnread F.Source.remaining F.Source.failed (F.files folder.old) (F.files folder.new))
         (given programs.entry) asked.now (verdict_in result) }
     ensures quiet { OnOk result (F.files folder.new ≡ F.files folder.old) }
     ensures read { IsOnlyRead (F.files folder.old) (F.files folder.new) }

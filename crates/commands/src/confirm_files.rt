@@ -1,9 +1,8 @@
 //! The look at a certificate.
 
-ghost use Rattle.std.specs.Prelude.{◌≡◌, ◌≢◌, ◌++◌, ℕ, List, IfErr, IfOk, OnOk};
+ghost use Rattle.std.specs.Prelude.{◌≡◌, ◌≢◌, ◌++◌, ℕ, List, IfOk};
 ghost use Rattle.command_line.specs.declared.request.TraceFiles.{TraceFiles};
 ghost use Rattle.host_files.specs.Files.{IsOnlyRead, IsUnread};
-ghost use Rattle.log_file.specs.Devices.{Tells};
 ghost use Rattle.mem_op.specs.Consistency.{IsConsistent};
 ghost use Rattle.refutation.specs.Grammar.{header_line};
 ghost use Rattle.refutation.specs.declared.fault.CertificateFault.TheVariants.{BadCertificate};
@@ -11,7 +10,7 @@ ghost use Rattle.commands.specs.SearchAnswers.{IsRightOf, search_status};
 ghost use Rattle.commands.specs.Confirming as confirming;
 ghost use Rattle.commands.specs.Traces.{TellsTrace, own_files};
 ghost use Rattle.commands.specs.declared.refusal.Refusal.TheVariants.{Certificate};
-ghost use Rattle.commands.specs.inner.Looking.{IsLook, IsNoCertificate};
+ghost use Rattle.commands.specs.inner.Looking.{IsLook};
 
 use super::order_certificate::first_bad_line_of_order;
 use super::place::Input;
@@ -33,14 +32,13 @@ const HEADER: &[u8] = b"tardis-refutation 1\n";
 
 /// Looks whether the certificate in a file of the folder holds of the trace in others. The answer that it gives, or why there is none: the
 /// trace is read first, and 43 comes with the first line of the certificate that isn't as it should be.
-pub fn confirm<F: Folder>(
+pub(crate) fn confirm<F: Folder>(
     alloc: Global,
     folder: &mut F,
     asked: &Confirm<'_>,
 ) -> Result<SearchAnswer, Refusal>
     ensures exact { confirming.IsConfirmed (F.files folder.old) (F.files folder.new)
-        (IsUnread F.Source.remaining F.Source.failed
-        (F.files folder.old) (F.files folder.new)) asked.now result }
+        (IsUnread F.Source.remaining F.Source.failed (F.files folder.old) (F.files folder.new)) asked.now result }
     ensures sound { IfOk result (λ answer. TellsTrace (F.files folder.old).told asked.now.trace
         (λ cores. IsRightOf cores answer)) }
     ensures own { IfOk result (λ answer. search_status answer ≡ 0
@@ -48,27 +46,12 @@ pub fn confirm<F: Folder>(
     ensures read { IsOnlyRead (F.files folder.old) (F.files folder.new) }
 {
     let read = read_files(alloc, folder, &asked.trace)?;
-    let text = read_certificate(alloc, folder, asked.certificate)?;
+    let text = match read_text(alloc, folder, asked.certificate) {
+        Ok(text) => text,
+        Err(ReadFault::Read) => return Err(Refusal::Unread(Input::Certificate)),
+        Err(ReadFault::OutOfMemory) => return Err(Refusal::OutOfMemory),
+    };
     look_at(alloc, &asked.trace, &read.trace, text.as_slice())
-}
-
-/// The text of a certificate: 28 if its file can't be opened or read, and 10 if a growth was refused.
-fn read_certificate<F: Folder>(
-    alloc: Global,
-    folder: &mut F,
-    name: &str,
-) -> Result<Vec<u8>, Refusal>
-    ensures ok { IfOk result (λ text. Tells ((F.files folder.old).told name.now) text.items) }
-    ensures err { IfErr result (IsNoCertificate (IsUnread F.Source.remaining F.Source.failed
-        (F.files folder.old) (F.files folder.new)) name.now) }
-    ensures quiet { OnOk result (F.files folder.new ≡ F.files folder.old) }
-    ensures read { IsOnlyRead (F.files folder.old) (F.files folder.new) }
-{
-    match read_text(alloc, folder, name) {
-        Ok(text) => Ok(text),
-        Err(ReadFault::Read) => Err(Refusal::Unread(Input::Certificate)),
-        Err(ReadFault::OutOfMemory) => Err(Refusal::OutOfMemory),
-    }
 }
 
 /// The answer that a certificate gives of the trace in these files, or its first line that isn't as it should be.

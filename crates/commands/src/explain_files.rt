@@ -1,6 +1,6 @@
 //! The verdict on the logs of a set, and why it is so.
 
-ghost use Rattle.std.specs.Prelude.{◌≡◌, ◌↔◌, ◌++◌, ℕ, List, IfErr, IfOk, IfSome, IsSome, IsTrue, OnOk, MatchResult, string_bytes, vec_len};
+ghost use Rattle.std.specs.Prelude.{◌≡◌, ◌↔◌, ◌++◌, ℕ, List, IfErr, IfOk, IfSome, IsSome, IsTrue, OnOk, MatchResult, string_bytes};
 ghost use Rattle.explain.specs.Pictures.{HasPicture, IsDrawn};
 ghost use Rattle.log_record.specs.declared.record.Record.{Record};
 ghost use Rattle.pictures.specs.Pictures.{IsPicture};
@@ -12,10 +12,8 @@ ghost use Rattle.commands.specs.Explaining as explaining;
 ghost use Rattle.host_files.specs.Files.{IsOnlyRead, IsUnread, KeepsFiles};
 ghost use Rattle.commands.specs.Outputs.{FailsPutAt, IsNameOf};
 ghost use Rattle.commands.specs.Sinks.{line, sink_of};
-ghost use Rattle.commands.specs.OtherOrders.{TellsOther};
-ghost use Rattle.commands.specs.inner.ReadLogs.{AreLogsOf};
 
-use super::check_files::examine_asked;
+use super::check_files::check;
 use super::other_order::other_order;
 use super::place::Output;
 use super::putting::put_under;
@@ -47,7 +45,7 @@ struct Told {
 /// Judges the logs in files of the folder as `check` does, puts a picture of why where one is asked for, and prints the
 /// verdict's line and what there is to tell of it. The verdict, or why there is none; 29 of the picture or of standard output. A watch
 /// is told how far the search for another order is.
-pub fn explain<R: Threads + Sync, W: SearchWatch, F: Folder, O: ByteSink>(
+pub(crate) fn explain<R: Threads + Sync, W: SearchWatch, F: Folder, O: ByteSink>(
     rt: &R,
     alloc: Global,
     watch: &W,
@@ -56,10 +54,8 @@ pub fn explain<R: Threads + Sync, W: SearchWatch, F: Folder, O: ByteSink>(
     out: &mut O,
 ) -> Result<Verdict, Refusal>
     ensures exact { explaining.IsExplained (F.files folder.old) (F.files folder.new)
-        (IsUnread F.Source.remaining F.Source.failed
-        (F.files folder.old) (F.files folder.new)) asked.now
-        (sink_of O.contents O.failed out.old)
-        (sink_of O.contents O.failed out.new) result }
+        (IsUnread F.Source.remaining F.Source.failed (F.files folder.old) (F.files folder.new)) asked.now
+        (sink_of O.contents O.failed out.old) (sink_of O.contents O.failed out.new) result }
     ensures files { KeepsFiles (F.files folder.old).told (F.files folder.new).told
         (IsNameOf asked.now.picture) }
 {
@@ -81,10 +77,9 @@ fn put_picture<F: Folder>(folder: &mut F, name: Option<&str>, told: &Told) -> Re
         (IsNameOf name.entry) }
 {
     match (name, &told.picture) {
-        (Some(name), Some(svg)) => match put_under(folder, Some(name), svg.as_bytes()) {
-            Ok(()) => Ok(()),
-            Err(_) => Err(Refusal::Unwritten(Output::Picture)),
-        },
+        (Some(name), Some(svg)) => {
+            put_under(folder, Some(name), svg.as_bytes(), Output::Picture)
+        }
         _ => Ok(()),
     }
 }
@@ -99,13 +94,9 @@ fn tell<R: Threads + Sync, W: SearchWatch, F: Folder>(
 ) -> Result<Told, Refusal>
     ensures exact { MatchResult result
         (λ told. checking.IsChecked (F.files folder.old).told
-        (IsUnread F.Source.remaining F.Source.failed
-        (F.files folder.old) (F.files folder.new))
-        asked.now.check (Ok told.verdict))
+        (IsUnread F.Source.remaining F.Source.failed (F.files folder.old) (F.files folder.new)) asked.now.check (Ok told.verdict))
         (λ fault. checking.IsChecked (F.files folder.old).told
-        (IsUnread F.Source.remaining F.Source.failed
-        (F.files folder.old) (F.files folder.new))
-        asked.now.check (Err fault)) }
+        (IsUnread F.Source.remaining F.Source.failed (F.files folder.old) (F.files folder.new)) asked.now.check (Err fault)) }
     ensures quiet { OnOk result (F.files folder.new ≡ F.files folder.old) }
     ensures read { IsOnlyRead (F.files folder.old) (F.files folder.new) }
     ensures text { IfOk result (λ told. explaining.TellsVerdict (F.files folder.old).told asked.now
@@ -113,8 +104,14 @@ fn tell<R: Threads + Sync, W: SearchWatch, F: Folder>(
     ensures picture { IfOk result (λ told. IfSome told.picture (λ svg. IsPicture (string_bytes svg))) }
     ensures drawn { IsSome asked.now.picture → IfOk result (λ told. IsSome told.picture ↔ HasPicture told.verdict) }
 {
-    let found = examine_asked(rt, alloc, folder, &asked.check)?;
-    let last = last_lines(alloc, watch, &found.examined, asked)?;
+    let found = check(rt, alloc, folder, &asked.check)?;
+    let last = other_order(
+        alloc,
+        watch,
+        &found.examined,
+        asked.check.files.len(),
+        asked.no_search,
+    )?;
     let told = words(
         alloc,
         &found.examined,
@@ -124,24 +121,6 @@ fn tell<R: Threads + Sync, W: SearchWatch, F: Folder>(
         last.as_str(),
     )?;
     Ok(told)
-}
-
-/// The last lines of what is told: whether another order explains all values, if that is asked for.
-fn last_lines<W: SearchWatch>(
-    alloc: Global,
-    watch: &W,
-    examined: &Examined,
-    asked: &Explain<'_>,
-) -> Result<String, AllocError>
-    requires { (logs : List (List Record))
-        × AreLogsOf logs examined.now.basis (vec_len asked.now.check.files) }
-    ensures { (logs : List (List Record)) → AreLogsOf logs examined.now.basis (vec_len asked.now.check.files)
-        → IfOk result (λ text. TellsOther asked.now.no_search examined.now.verdict logs (string_bytes text)) }
-{
-    if asked.no_search {
-        return Ok(String::new(alloc));
-    }
-    other_order(alloc, watch, examined, asked.check.files.len())
 }
 
 /// The text of a verdict on the logs of these names and of what there is to tell of it, with its last lines, and a picture where it is to
@@ -162,13 +141,13 @@ fn words(
     ensures drawn { IsTrue is_drawn → IfOk result (λ told. IsSome told.picture ↔ HasPicture told.verdict) }
 {
     let verdict = examined.verdict;
-    let line = format!(in alloc; "{verdict}\n")?;
     let why = reason(alloc, examined, programs, names.len())?;
-    let picture = picture_of(alloc, line.as_str(), &why, is_drawn)?;
+    let picture = picture_of(alloc, &verdict, &why, is_drawn)?;
     let more = more_text(alloc, names, &why, is_drawn && picture.is_none())?;
+    let text = text_of(alloc, &verdict, more.as_str(), last)?;
     Ok(Told {
         verdict,
-        text: text_of(line, more, last)?,
+        text,
         picture,
     })
 }
@@ -189,10 +168,10 @@ fn reason(
     }
 }
 
-/// The picture of why a verdict of this line is so, if it is to be drawn and can be.
+/// The picture of why a verdict is so, if it is to be drawn and can be.
 fn picture_of(
     alloc: Global,
-    line: &str,
+    verdict: &Verdict,
     why: &Explanation,
     is_drawn: bool,
 ) -> Result<Option<String>, AllocError>
@@ -202,8 +181,9 @@ fn picture_of(
     if !is_drawn {
         return Ok(None);
     }
+    let line = format!(in alloc; "{verdict}")?;
     let sentence = first_sentence(alloc, why)?;
-    draw_explanation(alloc, line.trim_end(), sentence.as_str(), why)
+    draw_explanation(alloc, line.as_str(), sentence.as_str(), why)
 }
 
 /// What there is to tell after the line of a verdict, and whether a picture that was asked for is left out.
@@ -221,10 +201,11 @@ fn more_text(
 }
 
 /// The line of a verdict, what there is to tell after it, and the last lines.
-fn text_of(mut line: String, why: String, last: &str) -> Result<String, AllocError>
-    ensures { IfOk result (λ text. string_bytes text ≡ string_bytes line ++ (string_bytes why ++ last.now)) }
+fn text_of(alloc: Global, verdict: &Verdict, why: &str, last: &str) -> Result<String, AllocError>
+    ensures { IfOk result (λ text. string_bytes text ≡ line (verdict_text verdict.now) ++ (why.now ++ last.now)) }
 {
-    line.push_str(why.as_str())?;
-    line.push_str(last)?;
-    Ok(line)
+    let mut text = format!(in alloc; "{verdict}\n")?;
+    text.push_str(why)?;
+    text.push_str(last)?;
+    Ok(text)
 }

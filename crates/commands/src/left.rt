@@ -66,10 +66,7 @@ fn put_numbers<F: Folder, R: RunParts>(
     let Ok(text) = numbers_of(alloc, of, leaving.cores, leaving.slices) else {
         return Err(Refusal::OutOfMemory);
     };
-    match put_under(folder, Some(name), text.as_slice()) {
-        Ok(()) => Ok(()),
-        Err(_) => Err(Refusal::Unwritten(Output::Statistics)),
-    }
+    put_under(folder, Some(name), text.as_slice(), Output::Statistics)
 }
 
 /// Writes the log of each core, and then the numbers of the run if a file is given for them. How many operations were performed.

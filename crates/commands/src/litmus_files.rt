@@ -2,7 +2,7 @@
 
 ghost use Rattle.std.specs.Prelude.{◌≡◌, IfErr, IfOk, IfSome, MatchResult, OnOk};
 ghost use Rattle.host_files.specs.Files.{IsOnlyRead, IsUnread, KeepsFiles};
-ghost use Rattle.commands.specs.Outputs.{FailsPutAt, IsNameOf, PutsAt};
+ghost use Rattle.commands.specs.Outputs.{IsNameOf};
 ghost use Rattle.commands.specs.Sinks.{sink_of};
 ghost use Rattle.commands.specs.Tabling as tabling;
 ghost use Rattle.statistics.specs.TableText.{totals_text};
@@ -47,8 +47,7 @@ pub(crate) fn read_test<F: Folder>(
 ) -> Result<Litmus, Refusal>
     ensures ok { IfOk result (λ test. tabling.IsTestIn (F.files folder.old).told name.now test) }
     ensures err { IfErr result (tabling.IsUntested (F.files folder.old).told
-        (IsUnread F.Source.remaining F.Source.failed
-        (F.files folder.old) (F.files folder.new)) name.now) }
+        (IsUnread F.Source.remaining F.Source.failed (F.files folder.old) (F.files folder.new)) name.now) }
     ensures quiet { OnOk result (F.files folder.new ≡ F.files folder.old) }
     ensures read { IsOnlyRead (F.files folder.old) (F.files folder.new) }
 {
@@ -98,8 +97,7 @@ fn collected_of<R: Threads + Wait + Sync, F: Folder>(
     ensures ok { IfOk result (λ collected.
         tabling.Tabled (F.files folder.old).told asked.now (λ made. made ≡ collected)) }
     ensures err { IfErr result (tabling.IsUntabled (F.files folder.old).told
-        (IsUnread F.Source.remaining F.Source.failed
-        (F.files folder.old) (F.files folder.new)) asked.now) }
+        (IsUnread F.Source.remaining F.Source.failed (F.files folder.old) (F.files folder.new)) asked.now) }
     ensures quiet { OnOk result (F.files folder.new ≡ F.files folder.old) }
     ensures read { IsOnlyRead (F.files folder.old) (F.files folder.new) }
 {
@@ -126,24 +124,10 @@ fn text_of(
     }
 }
 
-/// Puts a text under the name that is given for it, if one is: 29 if that fails.
-fn put_text<F: Folder>(folder: &mut F, statistics: Option<&str>, text: &[u8]) -> Result<(), Refusal>
-    ensures ok { OnOk result (PutsAt (F.files folder.old) (F.files folder.new) statistics.entry text.now) }
-    ensures err { IfErr result (λ fault. (fault ≡ Refusal.Unwritten Output.Statistics)
-        × FailsPutAt (F.files folder.old) (F.files folder.new) statistics.entry) }
-    ensures others { KeepsFiles (F.files folder.old).told (F.files folder.new).told
-        (IsNameOf statistics.entry) }
-{
-    match put_under(folder, statistics, text) {
-        Ok(()) => Ok(()),
-        Err(_) => Err(Refusal::Unwritten(Output::Statistics)),
-    }
-}
-
 /// Writes the table of the runs that are asked for, then puts their totals if a file is given for them, and answers whether an outcome
 /// is forbidden, or why there is no table: 29 if standard output failed, and then it took a beginning of it, or if the totals can't
 /// be put.
-pub fn count_outcomes<R: Threads + Wait + Sync, F: Folder, O: ByteSink>(
+pub(crate) fn count_outcomes<R: Threads + Wait + Sync, F: Folder, O: ByteSink>(
     rt: &R,
     alloc: Global,
     folder: &mut F,
@@ -151,8 +135,7 @@ pub fn count_outcomes<R: Threads + Wait + Sync, F: Folder, O: ByteSink>(
     out: &mut O,
 ) -> Result<bool, Refusal>
     ensures exact { tabling.IsCounted (F.files folder.old) (F.files folder.new)
-        (IsUnread F.Source.remaining F.Source.failed
-        (F.files folder.old) (F.files folder.new)) asked.now
+        (IsUnread F.Source.remaining F.Source.failed (F.files folder.old) (F.files folder.new)) asked.now
         (sink_of O.contents O.failed out.old) (sink_of O.contents O.failed out.new) result }
     ensures files { KeepsFiles (F.files folder.old).told (F.files folder.new).told
         (IsNameOf asked.now.statistics) }
@@ -162,6 +145,11 @@ pub fn count_outcomes<R: Threads + Wait + Sync, F: Folder, O: ByteSink>(
         return Err(Refusal::OutOfMemory);
     };
     write_table(alloc, out, &collected.table)?;
-    put_text(folder, asked.statistics, text.as_slice())?;
+    put_under(
+        folder,
+        asked.statistics,
+        text.as_slice(),
+        Output::Statistics,
+    )?;
     Ok(has_forbidden(&collected.table))
 }

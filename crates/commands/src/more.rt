@@ -8,7 +8,7 @@ ghost use Rattle.commands.specs.inner.Performing.{IsToldMore};
 use super::place::Input;
 use super::refusal::Refusal;
 use super::refusal_telling::tell_refusal;
-use super::refused_file::{RefusedCertificate, RefusedFile, RefusedLog};
+use super::refused_file::{RefusedCertificate, RefusedFile, RefusedLog, TextFault};
 use command_line::{Check, Confirm, Request, TraceFiles};
 use host_files::Folder;
 use log_file::ByteSink;
@@ -51,31 +51,27 @@ fn refused_of_logs<'a>(asked: &'a Check<'a>, refusal: &Refusal) -> Option<Refuse
     let files = asked.files.as_slice();
     match refusal {
         Refusal::Judge(JudgeFault::Log { file, line, fault }) => {
-            Some(RefusedFile::Log(RefusedLog {
-                name: *files.get(*file)?,
+            let log = RefusedLog {
                 files,
                 file: *file,
                 line: *line,
                 fault: *fault,
-            }))
+            };
+            Some(RefusedFile::Text(*files.get(*file)?, TextFault::Log(log)))
         }
         Refusal::Judge(JudgeFault::Read { file }) => Some(RefusedFile::Unread(*files.get(*file)?)),
         Refusal::Judge(JudgeFault::BadConfig(count)) => Some(RefusedFile::Count(*count)),
-        Refusal::Programs(fault) => Some(RefusedFile::Programs(asked.program?, *fault)),
-        Refusal::Unread(Input::Programs) => Some(RefusedFile::Unread(asked.program?)),
-        _ => None,
+        _ => refused_of_look(asked.program?, refusal),
     }
 }
 
-/// The file of this name, where a look at it was refused for it.
+/// The file of this name, where it was refused.
 fn refused_of_look<'a>(name: &'a str, refusal: &Refusal) -> Option<RefusedFile<'a>> {
     match refusal {
-        Refusal::Test(fault) => Some(RefusedFile::Test(name, *fault)),
-        Refusal::Programs(fault) => Some(RefusedFile::Programs(name, *fault)),
-        Refusal::Trace(fault) => Some(RefusedFile::Trace(name, *fault)),
-        Refusal::Unread(Input::Test | Input::Programs | Input::Trace) => {
-            Some(RefusedFile::Unread(name))
-        }
+        Refusal::Test(fault) => Some(RefusedFile::Text(name, TextFault::Test(*fault))),
+        Refusal::Programs(fault) => Some(RefusedFile::Text(name, TextFault::Programs(*fault))),
+        Refusal::Trace(fault) => Some(RefusedFile::Text(name, TextFault::Trace(*fault))),
+        Refusal::Unread(_) => Some(RefusedFile::Unread(name)),
         _ => None,
     }
 }

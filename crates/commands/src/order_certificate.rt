@@ -1,46 +1,34 @@
 //! The text of an order as a certificate.
 
-ghost use Rattle.std.specs.Prelude.{◌≡◌, ◌≢◌, ◌<◌, ◌^◌, ◌++◌, ℕ, List, IfOk, IfSome, IsNone, MatchOption, vec_len};
-ghost use Rattle.decimal_text.specs.Reading.{front_now};
-ghost use Rattle.mem_op.specs.Limits.{operation_limit};
-ghost use Rattle.merge_judge.specs.OrderText.{end_line};
+ghost use Rattle.std.specs.Prelude.{◌≡◌, ◌<◌, ◌^◌, IfOk, IfSome, IsNone, MatchOption, vec_len};
 ghost use Rattle.commands.specs.OrderTexts as orders;
-ghost use Rattle.commands.specs.inner.Certificates.{IsOneMore, TellsEnd, below, id_line_at};
+ghost use Rattle.commands.specs.inner.Certificates.{TellsEnd, id_of};
 
 use super::order_replay::first_wrong_place;
-use decimal_text::{after_text, read_field};
+use decimal_text::{after_text, read_field, read_last};
 use mem_op::{CoreId, OpId, OpIndex};
 use std::alloc::{AllocError, Global};
+use text_lines::next_line;
 use trace::Trace;
 
-/// The core of this number.
-fn core_of(number: u64) -> Option<CoreId>
-    ensures { result ≡ below 64 number }
+/// The id whose line this is, without its line feed.
+#[tactic(auto, unfolding(crate::specs::inner::Certificates::id_of, text_lines::specs::Fields::last_below))]
+fn read_id(line: &[u8]) -> Option<OpId>
+    ensures { result ≡ id_of line.now }
 {
-    CoreId::new(number).ok()
+    let (core, rest) = read_field(b'.', line)?;
+    let core = CoreId::new(core?).ok()?;
+    let index = OpIndex::new(read_last(rest)??).ok()?;
+    Some(OpId { core, index })
 }
 
-/// The index of this number.
-fn index_of(number: u64) -> Option<OpIndex>
-    ensures { result ≡ below operation_limit number }
+/// The id whose line is the first, and the bytes after it; None if the first line is no id's, or has no line feed.
+fn next_id(text: &[u8]) -> Option<(OpId, &[u8])>
+    ensures found { IfSome result (λ read. orders.IdInFront read.0 text.now read.1.now) }
+    ensures none { IsNone result → orders.NoIdInFront text.now }
 {
-    OpIndex::new(number).ok()
-}
-
-/// The id whose line is the first, and the bytes after it.
-#[tactic(auto, unfolding(crate::specs::inner::Certificates::id_line_at))]
-fn id_line(bytes: &[u8]) -> Option<(OpId, &[u8])>
-    ensures { front_now result ≡ id_line_at bytes.now }
-{
-    let Some((core, rest)) = read_field(b'.', bytes) else {
-        return None;
-    };
-    let Some((index, rest)) = read_field(b'\n', rest) else {
-        return None;
-    };
-    let core = core_of(core?)?;
-    let index = index_of(index?)?;
-    Some((OpId { core, index }, rest))
+    let (line, rest) = next_line(text)?;
+    Some((read_id(line)?, rest))
 }
 
 /// The ids whose lines a text begins with, and what comes after them.
@@ -50,19 +38,6 @@ struct Front<'a> {
     rest: &'a [u8],
 }
 
-/// Adds the id whose line is the first, if it is an id's, and answers the bytes after it.
-fn push_id<'a>(ids: &mut Vec<OpId>, bytes: &'a [u8]) -> Result<Option<&'a [u8]>, AllocError>
-    ensures { IfOk result (λ found. MatchOption found
-        (orders.NoIdInFront bytes.now × (ids.new.items ≡ ids.old.items))
-        (λ rest. IsOneMore bytes.now rest.now ids.old.items ids.new.items)) }
-{
-    let Some(read) = id_line(bytes) else {
-        return Ok(None);
-    };
-    ids.push(read.0)?;
-    Ok(Some(read.1))
-}
-
 /// Reads ids up to the first line that isn't an id's.
 fn read_ids(alloc: Global, text: &[u8]) -> Result<Front<'_>, AllocError>
     ensures begins { IfOk result (λ front. orders.BeginsWithIds text.now front.ids.items front.rest.now) }
@@ -70,35 +45,24 @@ fn read_ids(alloc: Global, text: &[u8]) -> Result<Front<'_>, AllocError>
 {
     let mut ids = Vec::new(alloc);
     let mut rest = text;
-    'reading: while let Some(behind) = push_id(&mut ids, rest)? {
+    'reading: while let Some((id, behind)) = next_id(rest) {
+        ids.push(id)?;
         rest = behind;
     }
     Ok(Front { ids, rest })
 }
 
-/// The bytes after the `end` line of so many ids; None if they don't begin with it.
-fn after_end(rest: &[u8], count: u64) -> Option<&[u8]>
-    ensures found { IfSome result (λ more. rest.now ≡ end_line count ++ more.now) }
-    ensures none { IsNone result → (more : List ℕ) → rest.now ≢ end_line count ++ more }
-{
-    let (number, more) = read_field(b'\n', after_text(b"end ", rest)?)?;
-    if number == Some(count) {
-        Some(more)
-    } else {
-        None
-    }
-}
-
 /// The line of the text at which its end is wrong: these bytes should be the `end` line of so many ids.
-fn bad_end(rest: &[u8], count: u64) -> Option<u64>
+fn bad_end(alloc: Global, rest: &[u8], count: u64) -> Result<Option<u64>, AllocError>
     requires { count < 2 ^ 63 }
-    ensures { TellsEnd rest.now count result }
+    ensures { IfOk result (TellsEnd rest.now count) }
 {
-    match after_end(rest, count) {
+    let due = format!(in alloc; "end {count}\n")?;
+    Ok(match after_text(due.as_bytes(), rest) {
         None => Some(count + 1),
         Some([]) => None,
         Some(_) => Some(count + 2),
-    }
+    })
 }
 
 /// The first line of a text that isn't as it should be in the text of an order of the trace's operations; None if it is
@@ -113,9 +77,8 @@ pub(crate) fn first_bad_line_of_order(
         (λ line. orders.IsFirstBadOfOrder trace.now text.now line)) }
 {
     let front = read_ids(alloc, text)?;
-    let count = front.ids.len() as u64;
     if let Some(place) = first_wrong_place(alloc, trace, front.ids.as_slice())? {
         return Ok(Some(place as u64 + 1));
     }
-    Ok(bad_end(front.rest, count))
+    bad_end(alloc, front.rest, front.ids.len() as u64)
 }

@@ -14,20 +14,19 @@ use host_files::Folder;
 use log_file::ByteSink;
 use merge_judge::merge_judge;
 use std::alloc::Global;
-use verdict::{Verdict, check_counts};
+use verdict::Verdict;
 
 /// The verdict on the logs in files of the folder, with a Yes the order of their operations, written,
 /// or why there is none: 6 of files comes before a file is opened, and 28 of one that can't be opened
 /// before one is read. What is written else lacks the `end` line.
-pub fn order<F: Folder, O: ByteSink>(
+pub(crate) fn order<F: Folder, O: ByteSink>(
     alloc: Global,
     folder: &mut F,
     asked: &Order<'_>,
     out: &mut O,
 ) -> Result<Verdict, Refusal>
     ensures exact { ordering.IsOrdered (F.files folder.old).told
-        (IsUnread F.Source.remaining F.Source.failed
-        (F.files folder.old) (F.files folder.new)) asked.now
+        (IsUnread F.Source.remaining F.Source.failed (F.files folder.old) (F.files folder.new)) asked.now
         (sink_of O.contents O.failed out.old) (sink_of O.contents O.failed out.new) result }
     ensures order { IfOk result (λ verdict. IsYes verdict
         → ordering.TakesOrder (F.files folder.old).told asked.now.files.items
@@ -35,7 +34,6 @@ pub fn order<F: Folder, O: ByteSink>(
     ensures quiet { OnOk result (F.files folder.new ≡ F.files folder.old) }
     ensures read { IsOnlyRead (F.files folder.old) (F.files folder.new) }
 {
-    check_counts(asked.files.len(), 1)?;
     let mut sources = open_all(alloc, folder, asked.files.as_slice())?;
     Ok(merge_judge(alloc, sources.as_mut_slice(), out)?)
 }

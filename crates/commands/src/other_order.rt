@@ -1,6 +1,6 @@
 //! Whether a set that got No has another order, one that explains all values.
 
-ghost use Rattle.std.specs.Prelude.{◌≡◌, ◌↔◌, List, IfOk, IsTrue, false, string_bytes};
+ghost use Rattle.std.specs.Prelude.{◌≡◌, ◌↔◌, List, IfOk, IsTrue, string_bytes};
 ghost use Rattle.log_record.specs.Entries.{operations_of};
 ghost use Rattle.log_record.specs.declared.record.Record.{Record};
 ghost use Rattle.commands.specs.OtherOrders.{IsWrongByOrder, TellsOrder, TellsOther, TellsSourced};
@@ -48,18 +48,19 @@ const UNSEARCHED: &str =
     "\nwhether another order explains all values wasn't searched, for more than 1,000,000 operations; search --logs searches\n";
 
 /// The last lines of the words about a set: whether another order explains all values, or that this wasn't searched, for more than 1,000,000
-/// operations. Nothing of a Yes, and of a log that isn't its program's. A watch is told how far the search is.
+/// operations. Nothing where that is declined, of a Yes, and of a log that isn't its program's. A watch is told how far the search is.
 pub(crate) fn other_order<W: SearchWatch>(
     alloc: Global,
     watch: &W,
     examined: &Examined,
     cores: usize,
+    is_declined: bool,
 ) -> Result<String, AllocError>
     requires { (logs : List (List Record)) × AreLogsOf logs examined.now.basis cores }
     ensures { (logs : List (List Record)) → AreLogsOf logs examined.now.basis cores
-        → IfOk result (λ text. TellsOther false examined.now.verdict logs (string_bytes text)) }
+        → IfOk result (λ text. TellsOther is_declined examined.now.verdict logs (string_bytes text)) }
 {
-    if !is_wrong_by_its_order(&examined.verdict) {
+    if is_declined || !is_wrong_by_its_order(&examined.verdict) {
         return Ok(String::new(alloc));
     }
     if records_in(&examined.basis) > MOST_SEARCHED {

@@ -4,7 +4,7 @@ ghost use Rattle.std.specs.Prelude.{◌≡◌};
 ghost use Rattle.commands.specs.Refusals.{input_text, output_text};
 
 /// A file that a call reads alone.
-#[derive(Clone, Copy, Debug, PartialEq, Eq)]
+#[derive(Clone, Copy)]
 pub enum Input {
     Programs,
     Schedule,
@@ -15,7 +15,7 @@ pub enum Input {
 }
 
 /// What a call writes.
-#[derive(Clone, Copy, Debug, PartialEq, Eq)]
+#[derive(Clone, Copy)]
 pub enum Output {
     /// Standard output.
     Standard,

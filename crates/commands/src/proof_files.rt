@@ -56,10 +56,7 @@ fn put_order<F: Folder>(
         return Ok(());
     };
     let text = print_order(alloc, order)?;
-    match put_under(folder, Some(name), text.as_bytes()) {
-        Ok(()) => Ok(()),
-        Err(_) => Err(Refusal::Unwritten(Output::Order)),
-    }
+    put_under(folder, Some(name), text.as_bytes(), Output::Order)
 }
 
 /// Puts the text of a refutation, and then a picture of it, each where that was asked for.
@@ -98,10 +95,7 @@ fn put_picture<F: Folder>(
     };
     let words = tell(alloc, trace, refutation)?;
     let picture = draw_refutation(alloc, words.as_str(), trace, refutation)?;
-    match put_under(folder, Some(name), picture.as_bytes()) {
-        Ok(()) => Ok(()),
-        Err(_) => Err(Refusal::Unwritten(Output::Picture)),
-    }
+    put_under(folder, Some(name), picture.as_bytes(), Output::Picture)
 }
 
 /// Puts the text of a refutation under a name, if one is given.
@@ -120,8 +114,5 @@ fn put_refutation<F: Folder>(
         return Ok(());
     };
     let text = refutation.print(alloc)?;
-    match put_under(folder, Some(name), text.as_bytes()) {
-        Ok(()) => Ok(()),
-        Err(_) => Err(Refusal::Unwritten(Output::Refutation)),
-    }
+    put_under(folder, Some(name), text.as_bytes(), Output::Refutation)
 }

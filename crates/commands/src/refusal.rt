@@ -19,12 +19,11 @@ use simulation::SimulationFault;
 use std::alloc::AllocError;
 use std::fmt;
 use std::fmt::Display;
-use thiserror::Error;
 use trace::TraceFault;
 use verdict::JudgeFault;
 
 /// Why a call was refused: where, with which number and name. Lack of memory counts for the whole call, wherever it came.
-#[derive(Clone, Copy, Debug, PartialEq, Eq, Error)]
+#[derive(Clone, Copy)]
 pub enum Refusal {
     /// There are no logs, or no verdict on them.
     Judge(JudgeFault),
@@ -61,7 +60,7 @@ pub enum Refusal {
 impl Refusal {
     /// The exit status: 1 if a run of a litmus test got No, 2 if a file was refused for what it says, 3 if a number is out of its
     /// range, else 4.
-    pub fn status(&self) -> u8
+    pub(crate) fn status(&self) -> u8
         ensures { result ≡ refusals.refusal_status self.now }
     {
         match self {

@@ -1,21 +1,23 @@
 //! The words about a file that was refused.
 
+ghost use Rattle.std.specs.Prelude.{IsSome, IsTrue};
 ghost use Rattle.host_files.specs.Files.{IsOnlyRead};
 
 use super::first_operations::first_text;
-use super::refused_again::{certificate_again, log_again, programs_again, test_again, trace_again};
-use super::refused_file::{RefusedCertificate, RefusedFile, RefusedLog};
+use super::refused_file::{
+    RefusedCertificate, RefusedFile, TextFault, certificate_again, text_again,
+};
 use host_files::Folder;
 use litmus_test::LitmusFault;
 use log_file::{ByteSink, FormatFault, write_all};
 use std::alloc::{AllocError, Global};
 use telling::{Kind, Place, Refused, Telling};
-use trace::{Trace, TraceFault};
+use trace::TraceFault;
 use verdict::Count;
 
 /// Tells on standard output more of the refusal of a file: where its fault is, how the line there is written, and what is wrong with it.
 /// A file that could be read is read again for that. A write that fails is passed over. Err if there is no memory, and then nothing is told.
-pub fn tell_refusal<F: Folder, O: ByteSink>(
+pub(crate) fn tell_refusal<F: Folder, O: ByteSink>(
     alloc: Global,
     folder: &mut F,
     refused: RefusedFile<'_>,
@@ -37,95 +39,101 @@ fn refusal_text<F: Folder>(
     ensures { IsOnlyRead (F.files folder.old) (F.files folder.new) }
 {
     match refused {
-        RefusedFile::Log(log) => log_text(alloc, folder, log),
-        RefusedFile::Test(name, fault) => {
-            let bytes = test_again(alloc, folder, name, fault);
-            test_text(alloc, name, Kind::Litmus, fault, bytes)
-        }
-        RefusedFile::Programs(name, fault) => {
-            let bytes = programs_again(alloc, folder, name, fault);
-            test_text(alloc, name, Kind::Programs, LitmusFault::from(fault), bytes)
-        }
-        RefusedFile::Trace(name, fault) => {
-            let bytes = trace_again(alloc, folder, name, fault);
-            trace_text(alloc, name, fault, bytes)
-        }
-        RefusedFile::Certificate(refused) => {
-            let read = certificate_again(alloc, folder, refused);
-            certificate_text(alloc, refused, read)
-        }
+        RefusedFile::Text(name, fault) => text_text(alloc, folder, name, fault),
+        RefusedFile::Certificate(refused) => certificate_text(alloc, folder, refused),
         RefusedFile::Unread(name) => format!(in alloc; "{name}: it can't be opened or read.\n"),
         RefusedFile::Count(count) => count_text(alloc, count),
     }
 }
 
-/// The words about a log that was refused.
-fn log_text<F: Folder>(
+/// The words about a text, and of a log that is cut off what comes before.
+fn text_text<F: Folder>(
     alloc: Global,
     folder: &mut F,
-    log: RefusedLog<'_>,
+    name: &str,
+    fault: TextFault<'_>,
 ) -> Result<String, AllocError>
     ensures { IsOnlyRead (F.files folder.old) (F.files folder.new) }
 {
-    let bytes = log_again(alloc, folder, log);
-    let is_cut_off = bytes.is_some() && log.fault == FormatFault::Truncated;
-    let place = Place {
-        file: log.name,
-        line: log.line,
-    };
-    let refused = Refused::Log {
-        file: log.file,
-        files: log.files.len(),
-        fault: log.fault,
-    };
-    let text = fault_text(alloc, place, refused, bytes)?;
-    if !is_cut_off {
-        return Ok(text);
-    }
-    let first = first_text(alloc, folder, log.files)?;
-    with_more(text, first.as_str())
-}
-
-/// The words about a text of this kind that was refused. A fault of a set of programs is told as that of a test with these programs.
-fn test_text(
-    alloc: Global,
-    name: &str,
-    kind: Kind,
-    fault: LitmusFault,
-    bytes: Option<Vec<u8>>,
-) -> Result<String, AllocError> {
-    let (line, refused) = match fault {
-        LitmusFault::BadLitmusLine(line) | LitmusFault::BadLine(line) => {
-            (line, Refused::BadLine(kind))
+    let bytes = text_again(alloc, folder, name, &fault);
+    let cut_off = files_cut_off(&fault, bytes.is_some());
+    let text = fault_text(alloc, name, fault, bytes)?;
+    match cut_off {
+        Some(files) => {
+            let first = first_text(alloc, folder, files)?;
+            with_more(text, first.as_str())
         }
-        LitmusFault::TooLong(line) => (line, Refused::TooLong),
-        LitmusFault::SkipPastEnd(line) => (line, Refused::SkipPastEnd),
-        LitmusFault::OutOfMemory => return Ok(String::new(alloc)),
-    };
-    fault_text(alloc, Place { file: name, line }, refused, bytes)
+        None => Ok(text),
+    }
 }
 
-/// The words about a trace that was refused.
-fn trace_text(
+/// The files of the set of a log that is cut off, if it could be read again.
+fn files_cut_off<'a>(fault: &TextFault<'a>, is_read: bool) -> Option<&'a [&'a str]>
+    ensures { IsSome result → IsTrue is_read }
+{
+    match fault {
+        TextFault::Log(log) if is_read && log.fault == FormatFault::Truncated => Some(log.files),
+        _ => None,
+    }
+}
+
+/// The words about the fault of the text in the file of this name, whose bytes these are if it could be read again.
+fn fault_text(
     alloc: Global,
     name: &str,
-    fault: TraceFault,
+    fault: TextFault<'_>,
     bytes: Option<Vec<u8>>,
 ) -> Result<String, AllocError> {
-    let (line, refused) = match fault {
-        TraceFault::BadTraceLine { line } => (line, Refused::BadTraceLine),
-        TraceFault::TooMany { line } => (line, Refused::TooMany),
-        TraceFault::OutOfMemory => return Ok(String::new(alloc)),
+    let Some((line, refused)) = place_of(fault) else {
+        return Ok(String::new(alloc));
     };
-    fault_text(alloc, Place { file: name, line }, refused, bytes)
+    let telling = Telling {
+        place: Place { file: name, line },
+        read: bytes.as_ref().map(|bytes| (refused, bytes.as_slice())),
+    };
+    telling.print(alloc)
 }
 
-/// The words about a certificate that was refused, beside this trace, and whose bytes these are if both could be read again.
-fn certificate_text(
+/// The line of a fault, and what is wrong there; none where memory was refused.
+fn place_of(fault: TextFault<'_>) -> Option<(u64, Refused<'static>)> {
+    match fault {
+        TextFault::Log(log) => {
+            let refused = Refused::Log {
+                file: log.file,
+                files: log.files.len(),
+                fault: log.fault,
+            };
+            Some((log.line, refused))
+        }
+        TextFault::Test(fault) => place_in_test(Kind::Litmus, fault),
+        TextFault::Programs(fault) => place_in_test(Kind::Programs, LitmusFault::from(fault)),
+        TextFault::Trace(TraceFault::BadTraceLine { line }) => Some((line, Refused::BadTraceLine)),
+        TextFault::Trace(TraceFault::TooMany { line }) => Some((line, Refused::TooMany)),
+        TextFault::Trace(TraceFault::OutOfMemory) => None,
+    }
+}
+
+/// The same of a text of this kind. A fault of a set of programs is told as that of a test with these programs.
+fn place_in_test(kind: Kind, fault: LitmusFault) -> Option<(u64, Refused<'static>)> {
+    match fault {
+        LitmusFault::BadLitmusLine(line) | LitmusFault::BadLine(line) => {
+            Some((line, Refused::BadLine(kind)))
+        }
+        LitmusFault::TooLong(line) => Some((line, Refused::TooLong)),
+        LitmusFault::SkipPastEnd(line) => Some((line, Refused::SkipPastEnd)),
+        LitmusFault::OutOfMemory => None,
+    }
+}
+
+/// The words about a certificate.
+fn certificate_text<F: Folder>(
     alloc: Global,
+    folder: &mut F,
     refused: RefusedCertificate<'_>,
-    read: Option<(Trace, Vec<u8>)>,
-) -> Result<String, AllocError> {
+) -> Result<String, AllocError>
+    ensures { IsOnlyRead (F.files folder.old) (F.files folder.new) }
+{
+    let read = certificate_again(alloc, folder, refused);
     let place = Place {
         file: refused.name,
         line: refused.line,
@@ -135,20 +143,6 @@ fn certificate_text(
         read: read
             .as_ref()
             .map(|read| (Refused::BadCertificate(&read.0), read.1.as_slice())),
-    };
-    telling.print(alloc)
-}
-
-/// The words about a fault at this place of a file, whose bytes these are if it could be read again.
-fn fault_text(
-    alloc: Global,
-    place: Place<'_>,
-    refused: Refused<'_>,
-    bytes: Option<Vec<u8>>,
-) -> Result<String, AllocError> {
-    let telling = Telling {
-        place,
-        read: bytes.as_ref().map(|bytes| (refused, bytes.as_slice())),
     };
     telling.print(alloc)
 }

@@ -27,7 +27,7 @@ pub trait ReplayWatch {
 /// also what should have been read. It answers the verdict, or why there is none: 42 with the first line that isn't one of a trace, before
 /// which all was right, and 28 if the file can't be opened or read. At the first load or swap that read another word it tells the watch, and
 /// stops.
-pub fn replay<W: ReplayWatch, F: Folder, O: ByteSink>(
+pub(crate) fn replay<W: ReplayWatch, F: Folder, O: ByteSink>(
     alloc: Global,
     watch: &W,
     folder: &mut F,
@@ -35,8 +35,7 @@ pub fn replay<W: ReplayWatch, F: Folder, O: ByteSink>(
     out: &mut O,
 ) -> Result<ReplayVerdict, Refusal>
     ensures exact { replaying.IsReplayedBy (F.files folder.old) (F.files folder.new)
-        (IsUnread F.Source.remaining F.Source.failed
-        (F.files folder.old) (F.files folder.new)) asked.now result }
+        (IsUnread F.Source.remaining F.Source.failed (F.files folder.old) (F.files folder.new)) asked.now result }
     ensures sound { IfOk result (λ verdict. verdict_status verdict ≡ 0 → replaying.TellsText
         (F.files folder.old).told asked.now.trace.now replaying.IsConsistentText) }
     ensures read { IsOnlyRead (F.files folder.old) (F.files folder.new) }
@@ -101,9 +100,7 @@ fn replay_trace<F: Folder>(
     ensures ok { IfOk result (λ verdict. replaying.TellsText (F.files folder.old).told name.now
         (λ text. IsVerdict text verdict)) }
     ensures err { IfErr result (IsUndecided (F.files folder.old).told
-        (IsUnread F.Source.remaining F.Source.failed
-        (F.files folder.old) (F.files folder.new))
-        name.now) }
+        (IsUnread F.Source.remaining F.Source.failed (F.files folder.old) (F.files folder.new)) name.now) }
     ensures quiet { OnOk result (F.files folder.new ≡ F.files folder.old) }
     ensures read { IsOnlyRead (F.files folder.old) (F.files folder.new) }
 {

@@ -19,17 +19,15 @@ use std::thread::Threads;
 
 /// Runs the programs in a file of the folder, each core in a thread of its own, and writes the log of each core, and then the run's
 /// numbers if a file is given for them, also if a fault ends the run. The number of operations that were performed, or why there is none.
-pub fn run<R: Threads + Wait + Sync, W: Watch + Sync, F: Folder>(
+pub(crate) fn run<R: Threads + Wait + Sync, W: Watch + Sync, F: Folder>(
     rt: &R,
     alloc: Global,
     watch: &W,
     folder: &mut F,
     asked: &Run<'_>,
 ) -> Result<u64, Refusal>
-    ensures exact { running.IsThreadRun (F.files folder.old)
-        (F.files folder.new)
-        (IsUnread F.Source.remaining F.Source.failed
-        (F.files folder.old) (F.files folder.new)) asked.now result }
+    ensures exact { running.IsThreadRun (F.files folder.old) (F.files folder.new)
+        (IsUnread F.Source.remaining F.Source.failed (F.files folder.old) (F.files folder.new)) asked.now result }
     ensures files { KeepsFiles (F.files folder.old).told (F.files folder.new).told
         (IsLeftName asked.now.out.now asked.now.statistics) }
 {

@@ -8,7 +8,7 @@ use std::fmt;
 use std::fmt::Display;
 
 /// Whether a trace is consistent, with the number of its operations.
-#[derive(Clone, Copy, Debug, PartialEq, Eq)]
+#[derive(Clone, Copy)]
 pub enum SearchAnswer {
     /// It is.
     Yes(u64),
@@ -30,7 +30,7 @@ impl SearchAnswer {
     }
 
     /// The exit status: 0 for yes, 1 for no.
-    pub fn status(&self) -> u8
+    pub(crate) fn status(&self) -> u8
         ensures { result ≡ search_status self.now }
     {
         match self {

@@ -22,7 +22,7 @@ use std::alloc::Global;
 /// Searches an order of the trace in files of the folder, or a refutation, puts what it finds where that was asked for, and prints
 /// the answer's line and why it is so. The answer, or why there is none: 29 of a file that can't be put comes before anything is
 /// printed, and 44 if the search gives up. A watch is told how far the search is.
-pub fn search<W: SearchWatch, F: Folder, O: ByteSink>(
+pub(crate) fn search<W: SearchWatch, F: Folder, O: ByteSink>(
     alloc: Global,
     watch: &W,
     folder: &mut F,
@@ -30,8 +30,7 @@ pub fn search<W: SearchWatch, F: Folder, O: ByteSink>(
     out: &mut O,
 ) -> Result<SearchAnswer, Refusal>
     ensures exact { searching.IsSearched (F.files folder.old) (F.files folder.new)
-        (IsUnread F.Source.remaining F.Source.failed
-        (F.files folder.old) (F.files folder.new)) asked.now result }
+        (IsUnread F.Source.remaining F.Source.failed (F.files folder.old) (F.files folder.new)) asked.now result }
     ensures sound { IfOk result (λ answer. TellsTrace (F.files folder.old).told asked.now.trace
         (λ cores. IsRightOf cores answer)) }
     ensures own { IfOk result (λ answer. search_status answer ≡ 0

@@ -26,11 +26,9 @@ use tardis_core::{Core, CoreFault};
 /// Runs the programs in a file of the folder by a schedule and then to their ends, and writes the log
 /// of each core, and then the run's numbers and its events if files are given for them, also if a fault ends the run. The number
 /// of operations that were performed, or why there is none.
-pub fn sim<F: Folder>(alloc: Global, folder: &mut F, asked: &Sim<'_>) -> Result<u64, Refusal>
-    ensures exact { simulating.IsTracedRun (F.files folder.old)
-        (F.files folder.new)
-        (IsUnread F.Source.remaining F.Source.failed
-        (F.files folder.old) (F.files folder.new)) asked.now result }
+pub(crate) fn sim<F: Folder>(alloc: Global, folder: &mut F, asked: &Sim<'_>) -> Result<u64, Refusal>
+    ensures exact { simulating.IsTracedRun (F.files folder.old) (F.files folder.new)
+        (IsUnread F.Source.remaining F.Source.failed (F.files folder.old) (F.files folder.new)) asked.now result }
     ensures files { KeepsFiles (F.files folder.old).told (F.files folder.new).told
         (simulating.IsSimName asked.now) }
 {
@@ -99,10 +97,8 @@ fn leave_events<F: Folder>(
     let Ok(text) = print_events(alloc, programs, machine) else {
         return Err(Refusal::OutOfMemory);
     };
-    match put_under(folder, Some(name), text.as_slice()) {
-        Ok(()) => Ok(count),
-        Err(_) => Err(Refusal::Unwritten(Output::Events)),
-    }
+    put_under(folder, Some(name), text.as_slice(), Output::Events)?;
+    Ok(count)
 }
 
 /// The commands in a file of the folder, for `cores` cores; none if no name is given.
@@ -116,8 +112,7 @@ fn read_schedule<F: Folder>(
     ensures ok { IfOk result (λ commands.
         simulating.AreCommandsOf (F.files folder.old).told name.entry cores commands.items) }
     ensures err { IfErr result (simulating.IsUnscheduled (F.files folder.old).told
-        (IsUnread F.Source.remaining F.Source.failed
-        (F.files folder.old) (F.files folder.new)) name.entry cores) }
+        (IsUnread F.Source.remaining F.Source.failed (F.files folder.old) (F.files folder.new)) name.entry cores) }
     ensures quiet { OnOk result (F.files folder.new ≡ F.files folder.old) }
     ensures read { IsOnlyRead (F.files folder.old) (F.files folder.new) }
 {

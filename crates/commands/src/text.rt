@@ -14,10 +14,13 @@ use log_file::{ReadFault, read_all};
 use std::alloc::Global;
 
 /// The text of a file of the folder: 28 if it can't be opened or read, and 10 if a growth was refused.
-pub fn read_text<F: Folder>(alloc: Global, folder: &mut F, name: &str) -> Result<Vec<u8>, ReadFault>
+pub(crate) fn read_text<F: Folder>(
+    alloc: Global,
+    folder: &mut F,
+    name: &str,
+) -> Result<Vec<u8>, ReadFault>
     ensures ok { IfOk result (λ text. Tells ((F.files folder.old).told name.now) text.items) }
-    ensures err { IfErr result (IsNoText (IsUnread F.Source.remaining F.Source.failed
-        (F.files folder.old) (F.files folder.new)) name.now) }
+    ensures err { IfErr result (IsNoText (IsUnread F.Source.remaining F.Source.failed (F.files folder.old) (F.files folder.new)) name.now) }
     ensures quiet { OnOk result (F.files folder.new ≡ F.files folder.old) }
     ensures read { IsOnlyRead (F.files folder.old) (F.files folder.new) }
 {
@@ -27,16 +30,14 @@ pub fn read_text<F: Folder>(alloc: Global, folder: &mut F, name: &str) -> Result
 
 /// The programs in a file of the folder: 28 if it can't be opened or read, 10 if a growth was refused, and else the
 /// first fault of its text.
-pub fn read_programs<F: Folder>(
+pub(crate) fn read_programs<F: Folder>(
     alloc: Global,
     folder: &mut F,
     name: &str,
 ) -> Result<ProgramSet, Refusal>
     ensures ok { IfOk result (AreProgramsIn (F.files folder.old).told name.now) }
     ensures err { IfErr result (IsUnprogrammed (F.files folder.old).told
-        (IsUnread F.Source.remaining F.Source.failed
-        (F.files folder.old) (F.files folder.new))
-        name.now) }
+        (IsUnread F.Source.remaining F.Source.failed (F.files folder.old) (F.files folder.new)) name.now) }
     ensures quiet { OnOk result (F.files folder.new ≡ F.files folder.old) }
     ensures read { IsOnlyRead (F.files folder.old) (F.files folder.new) }
 {

@@ -46,9 +46,7 @@ pub(crate) fn read_trace<F: Folder>(
 ) -> Result<Trace, Refusal>
     ensures ok { IfOk result (SpellsTraceAt (F.files folder.old).told name.now) }
     ensures err { IfErr result (IsNoTrace (F.files folder.old).told
-        (IsUnread F.Source.remaining F.Source.failed
-        (F.files folder.old) (F.files folder.new))
-        name.now) }
+        (IsUnread F.Source.remaining F.Source.failed (F.files folder.old) (F.files folder.new)) name.now) }
     ensures quiet { OnOk result (F.files folder.new ≡ F.files folder.old) }
     ensures read { IsOnlyRead (F.files folder.old) (F.files folder.new) }
 {

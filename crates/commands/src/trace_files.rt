@@ -1,11 +1,14 @@
 //! The trace that was asked about.
 
-ghost use Rattle.std.specs.Prelude.{◌≡◌, IfErr, IfOk, OnOk};
+ghost use Rattle.std.specs.Prelude.{◌≡◌, IfErr, IfOk, OnOk, length};
 ghost use Rattle.host_files.specs.Files.{IsOnlyRead, IsUnread};
-ghost use Rattle.commands.specs.Traces.{AreTraceless, IsTraceIn};
+ghost use Rattle.verdict.specs.Counts.{IsInRange};
+ghost use Rattle.commands.specs.Traces as traces;
+ghost use Rattle.commands.specs.inner.ReadTraces.{AreLogless};
 
-use super::log_trace::{read_logs, read_sourced};
+use super::log_files::{read_log_files, trace_of};
 use super::refusal::Refusal;
+use super::sources::sourced_trace;
 use super::trace_file::read_trace;
 use command_line::TraceFiles;
 use host_files::Folder;
@@ -29,16 +32,6 @@ impl AskedTrace {
         AskedTrace {
             trace,
             worded: None,
-        }
-    }
-
-    /// A trace that has sources in place of words, and the one with the words.
-    pub(crate) fn sourced(trace: Trace, worded: Trace) -> AskedTrace
-        ensures { result.trace ≡ trace }
-    {
-        AskedTrace {
-            trace,
-            worded: Some(worded),
         }
     }
 
@@ -76,10 +69,9 @@ pub(crate) fn read_files<F: Folder>(
     folder: &mut F,
     files: &TraceFiles<'_>,
 ) -> Result<AskedTrace, Refusal>
-    ensures ok { IfOk result (λ read. IsTraceIn (F.files folder.old).told files.now read.trace) }
-    ensures err { IfErr result (AreTraceless (F.files folder.old).told
-        (IsUnread F.Source.remaining F.Source.failed
-        (F.files folder.old) (F.files folder.new)) files.now) }
+    ensures ok { IfOk result (λ read. traces.IsTraceIn (F.files folder.old).told files.now read.trace) }
+    ensures err { IfErr result (traces.AreTraceless (F.files folder.old).told
+        (IsUnread F.Source.remaining F.Source.failed (F.files folder.old) (F.files folder.new)) files.now) }
     ensures quiet { OnOk result (F.files folder.new ≡ F.files folder.old) }
     ensures read { IsOnlyRead (F.files folder.old) (F.files folder.new) }
 {
@@ -88,4 +80,37 @@ pub(crate) fn read_files<F: Folder>(
         TraceFiles::Logs(names) => Ok(AskedTrace::of(read_logs(alloc, folder, names.as_slice())?)),
         TraceFiles::Sourced(names) => read_sourced(alloc, folder, names.as_slice()),
     }
+}
+
+/// The trace of the logs in files of the folder, or why there is none: 6 of files comes before a file is opened, and 28 of one that
+/// can't be opened before one is read.
+fn read_logs<F: Folder>(alloc: Global, folder: &mut F, names: &[&str]) -> Result<Trace, Refusal>
+    ensures ok { IfOk result (λ cores. IsInRange (length names.now)
+        × traces.SpellLogsAt (F.files folder.old).told names.now cores) }
+    ensures err { IfErr result (AreLogless (F.files folder.old).told
+        (IsUnread F.Source.remaining F.Source.failed (F.files folder.old) (F.files folder.new)) names.now) }
+    ensures quiet { OnOk result (F.files folder.new ≡ F.files folder.old) }
+    ensures read { IsOnlyRead (F.files folder.old) (F.files folder.new) }
+{
+    let logs = read_log_files(alloc, folder, names)?;
+    Ok(trace_of(alloc, logs.as_slice())?)
+}
+
+/// The same with the sources that the logs name in place of their words.
+fn read_sourced<F: Folder>(
+    alloc: Global,
+    folder: &mut F,
+    names: &[&str],
+) -> Result<AskedTrace, Refusal>
+    ensures ok { IfOk result (λ read. IsInRange (length names.now)
+        × traces.SpellSourcesAt (F.files folder.old).told names.now read.trace) }
+    ensures err { IfErr result (AreLogless (F.files folder.old).told
+        (IsUnread F.Source.remaining F.Source.failed (F.files folder.old) (F.files folder.new)) names.now) }
+    ensures quiet { OnOk result (F.files folder.new ≡ F.files folder.old) }
+    ensures read { IsOnlyRead (F.files folder.old) (F.files folder.new) }
+{
+    let logs = read_log_files(alloc, folder, names)?;
+    let trace = sourced_trace(alloc, logs.as_slice())?;
+    let worded = Some(trace_of(alloc, logs.as_slice())?);
+    Ok(AskedTrace { trace, worded })
 }

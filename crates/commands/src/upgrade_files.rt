@@ -15,7 +15,6 @@ use host_files::Folder;
 use log_record::{Format, Record};
 use mem_op::CoreId;
 use std::alloc::Global;
-use verdict::check_counts;
 
 /// The logs of a set that was read.
 #[derive(Clone, Copy)]
@@ -38,17 +37,15 @@ impl<'a> LogsOfCores for ReadLogs<'a> {
 /// Reads the logs in files of the folder, and writes each in format 2. How many operations they have,
 /// or why there is no answer: 6 of files comes before a file is opened, 28 of one that can't be opened
 /// before one is read, and the first fault of the set before a log is written.
-pub fn upgrade<F: Folder>(
+pub(crate) fn upgrade<F: Folder>(
     alloc: Global,
     folder: &mut F,
     asked: &Upgrade<'_>,
 ) -> Result<u64, Refusal>
     ensures exact { upgrading.IsUpgraded (F.files folder.old) (F.files folder.new)
-        (IsUnread F.Source.remaining F.Source.failed
-        (F.files folder.old) (F.files folder.new)) asked.now result }
+        (IsUnread F.Source.remaining F.Source.failed (F.files folder.old) (F.files folder.new)) asked.now result }
     ensures files { logs.KeepsOthers (F.files folder.old).told (F.files folder.new).told asked.now.out.now 64 }
 {
-    check_counts(asked.files.len(), 1)?;
     let read = read_log_files(alloc, folder, asked.files.as_slice())?;
     let logs = read.as_slice();
     Ok(write_logs(

@@ -28,7 +28,7 @@ pub trait LogsOfCores {
 
 /// Writes the log of each core, of `cores`, in this format, and answers how many operations they have
 /// performed. The first log that can't be written ends it: 29 if its put fails, and 10 if a growth was refused.
-pub fn write_logs<F: Folder, L: LogsOfCores>(
+pub(crate) fn write_logs<F: Folder, L: LogsOfCores>(
     alloc: Global,
     folder: &mut F,
     out: &str,

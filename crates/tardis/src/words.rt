@@ -8,10 +8,9 @@ use mem_op::FaultName;
 use std::alloc::{AllocFailed, Global};
 use std::io::ErrorKind;
 use std::{env, fmt, io};
-use thiserror::Error;
 
 /// Why the words of the command line can't be read.
-#[derive(Clone, Copy, Debug, PartialEq, Eq, Error)]
+#[derive(Clone, Copy)]
 pub(crate) enum WordsFault {
     /// One of them isn't UTF-8.
     NotText,

@@ -14,7 +14,7 @@ use rows::{File, Given, MemoryFolder};
 use std::alloc::Global;
 use std::sync::Wait;
 use std::thread::Threads;
-use verdict::{JudgeFault, OpenGate, check_counts, judge, report};
+use verdict::{OpenGate, judge, report};
 
 /// How the writes of a call go.
 #[derive(Clone, Copy)]
@@ -96,7 +96,7 @@ pub(crate) fn check_alone<R: Threads + Sync>(
     let mut folder = MemoryFolder::new(alloc, given);
     let mut out = MemSink::new(alloc, &[]);
     let mut err = MemSink::new(alloc, &[]);
-    let answer = match open_logs(alloc, &mut folder, names) {
+    let answer = match open_all(alloc, &mut folder, names) {
         Ok(mut logs) => judge(rt, alloc, logs.as_mut_slice(), 1, &OpenGate),
         Err(fault) => Err(fault),
     };
@@ -108,14 +108,4 @@ pub(crate) fn check_alone<R: Threads + Sync>(
         put: Vec::new(alloc),
         seen: (0, 0),
     })
-}
-
-/// Opens the files of these names, the log of each core, unless there are too many.
-fn open_logs<F: Folder>(
-    alloc: Global,
-    folder: &mut F,
-    names: &[&str],
-) -> Result<Vec<F::Source>, JudgeFault> {
-    check_counts(names.len(), 1)?;
-    open_all(alloc, folder, names)
 }

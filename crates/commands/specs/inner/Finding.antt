@@ -20,8 +20,7 @@ IsGivenUp fault = ⊥
 
 -- the put failed and the fault is `unwritten`, or memory ran out before the put
 abbrev pub IsUnputAt : Refusal → Files → Files → Option (Bor (List ℕ)) → Refusal → Type 0
-IsUnputAt unwritten old new name OutOfMemory = ⊤
-IsUnputAt unwritten old new name fault = (fault ≡ unwritten) × FailsPutAt old new name
+IsUnputAt unwritten old new name fault = ((fault ≡ unwritten) × FailsPutAt old new name) ⊎ (fault ≡ OutOfMemory)
 
 -- the refutation wasn't put, or it was and then its picture wasn't
 abbrev pub IsBothUnput : Files → Files → Search → List Step → Refusal → Type 0

@@ -1,12 +1,11 @@
--- What a look at a certificate's text answers, and why there is no text.
+-- What a look at a certificate's text answers.
 use Rattle.std.specs.Prelude.{⊤, ℕ, List, Result, Ok, Err}
 use Rattle.command_line.specs.declared.request.TraceFiles.{TraceFiles}
 use Rattle.mem_op.specs.Consistency.{Operation}
 use Rattle.commands.specs.Confirming.{Certifies, IsBadCertificate}
 use Rattle.commands.specs.declared.search_answer.SearchAnswer.{SearchAnswer}
-use Rattle.commands.specs.declared.place.Input.TheVariants as input
 use Rattle.commands.specs.declared.refusal.Refusal.{Refusal}
-use Rattle.commands.specs.declared.refusal.Refusal.TheVariants.{Certificate, OutOfMemory, Unread}
+use Rattle.commands.specs.declared.refusal.Refusal.TheVariants.{Certificate, OutOfMemory}
 
 -- the answer that the text certifies, or where it goes wrong; lack of memory may come instead
 abbrev pub IsLook : TraceFiles → List (List Operation) → List ℕ → Result SearchAnswer Refusal → Type 0
@@ -14,9 +13,3 @@ IsLook files cores text (Ok answer) = Certifies files cores text answer
 IsLook files cores text (Err (Certificate fault)) = IsBadCertificate cores text fault
 IsLook files cores text (Err OutOfMemory) = ⊤
 IsLook files cores text (Err fault) = ⊥
-
--- the file of this name can't be read, or memory ran out
-abbrev pub IsNoCertificate : (List ℕ → Type 0) → List ℕ → Refusal → Type 0
-IsNoCertificate unread name (Unread input.Certificate) = unread name
-IsNoCertificate unread name OutOfMemory = ⊤
-IsNoCertificate unread name fault = ⊥

@@ -1,4 +1,4 @@
-use Rattle.std.proofs.Common.{rules, ◌≡◌, ◌∙◌, sym, true, false}
+use Rattle.std.proofs.Common.{rules, ◌≡◌, true, false}
 use Rattle.command_line.specs.Files.{texts}
 use Rattle.command_line.proofs.NamesApart.{nowhere, sliced, unfound}
 use Rattle.command_line.proofs.apart.+are_new.Goals.{then-not-is_among, else-not-is_among}

@@ -1,4 +1,4 @@
-use Rattle.std.proofs.Common.{rules, ◌≡◌, ◌++◌, ◌∷◌, [], None, Some, slice_index_or}
+use Rattle.std.proofs.Common.{rules, None}
 use Rattle.command_line.proofs.NamesApart.{given_none, given_some}
 use Rattle.command_line.proofs.apart.names_of.Goals.{in-Some+in_ok-push, in_default}
 use Rattle.command_line.proofs.apart.names_of.Goals as goal

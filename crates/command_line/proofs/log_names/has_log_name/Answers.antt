@@ -1,4 +1,4 @@
-use Rattle.std.proofs.Common.{rules, arith, ◌≡◌, ◌∙◌, ◌<◌, ◌+◌, ◌≤◌, ℕ, subst, sym, true, false}
+use Rattle.std.proofs.Common.{rules, arith, ◌≡◌, ◌∙◌, subst, sym, true, false}
 use Rattle.std.specs.Prelude.{Contains}
 use Rattle.command_line.specs.Asking.{texts}
 use Rattle.command_line.specs.RunFiles.{log_name}

@@ -4,107 +4,82 @@ use Rattle.commands.proofs.Files.{keeps_files}
 use Rattle.commands.proofs.Checks.{consistent_files, flat_files}
 use Rattle.commands.proofs.Orders.{consistent}
 use Rattle.commands.proofs.Leaving.{run_leaves, sim_leaves}
-use Rattle.commands.proofs.Performed.{answered, anew, check_no, of_table, order_no, printed, refused, replayed_no, right_no, yes_of}
-use Rattle.commands.proofs.Refused.{check_no_table, check_refused, confirm_no_table, confirm_refused, explain_no_table, explain_refused, inspect_refused, litmus_refused, order_no_table, order_refused, replay_no_table, replay_refused, run_refused, search_no_table, search_refused, sim_refused, upgrade_refused, vet_refused}
+use Rattle.commands.proofs.Performed.{answered, anew, check_no, order_no, printed, replayed_no, right_no, yes_of}
+use Rattle.commands.proofs.Refused.{check_refused, confirm_refused, explain_refused, inspect_refused, litmus_refused, order_refused, replay_refused, run_refused, search_refused, sim_refused, upgrade_refused, vet_refused}
 use Rattle.commands.specs.Sinks.{sink_of}
 use Rattle.commands.specs.declared.answer.CommandAnswer.TheVariants.{Judged, Ordered, Explained, Readable, Searched, Certified, Replayed, Counted, Done, Version}
 use Rattle.commands.proofs.call.perform.Goals as goal
 
-pub returns-in_err-verdict-in-Check : goal.returns-in_err-verdict-in-Check
-returns-in_err-verdict-in-Check g c =
-    let files = g.F.Folder.files in
-    let old = files c.args.folder.now in
-    let new = files c.check.new.folder in
-    let unread = IsUnread g.F.Source.ByteSource.remaining g.F.Source.ByteSource.failed old new in
-    let sink = sink_of g.O.ByteSink.contents g.O.ByteSink.failed in
-    let refusal = c.in_err-verdict-in-Check.field-0.0 in
+pub returns-in_err-found-in-Check : goal.returns-in_err-found-in-Check
+returns-in_err-found-in-Check g c =
+    let refusal = c.in_err-found-in-Check.field-0.0 in
     let is : c.from_residual.result ≡ Err refusal = search rules in
-    rw c.in-Check.is (refused _ _ _ _ _ _ refusal _ is (keeps_files _ _ _ c.in_err-verdict-in-Check.ensures.read) (check_refused _ _ _ _ _ c.in-Check.asked refusal c.in_err-verdict-in-Check.ensures.exact c.in_err-verdict-in-Check.ensures.read) (λ one. absurd (check_no_table old new unread (sink c.args.out.now) (sink c.args.out.now) c.in-Check.asked refusal c.in_err-verdict-in-Check.ensures.exact (of_table refusal one))))
+    rw (c.in-Check.is, is) (check_refused _ _ _ _ _ c.in-Check.asked refusal c.in_err-found-in-Check.ensures.exact c.in_err-found-in-Check.ensures.read)
 
 pub returns-in_err-order-in-Order : goal.returns-in_err-order-in-Order
 returns-in_err-order-in-Order g c =
-    let files = g.F.Folder.files in
-    let old = files c.args.folder.now in
-    let new = files c.order.new.folder in
-    let unread = IsUnread g.F.Source.ByteSource.remaining g.F.Source.ByteSource.failed old new in
-    let sink = sink_of g.O.ByteSink.contents g.O.ByteSink.failed in
     let refusal = c.in_err-order-in-Order.field-0.0 in
     let is : c.from_residual-in_err-order-in-Order.result ≡ Err refusal = search rules in
-    rw c.in-Order.is (refused _ _ _ _ _ _ refusal _ is (keeps_files _ _ _ c.in_err-order-in-Order.ensures.read) (order_refused _ _ _ _ _ c.in-Order.asked refusal c.in_err-order-in-Order.ensures.exact c.in_err-order-in-Order.ensures.read) (λ one. absurd (order_no_table old new unread (sink c.args.out.now) (sink c.order.new.out) c.in-Order.asked refusal c.in_err-order-in-Order.ensures.exact (of_table refusal one))))
+    rw (c.in-Order.is, is) (order_refused _ _ _ _ _ c.in-Order.asked refusal c.in_err-order-in-Order.ensures.exact c.in_err-order-in-Order.ensures.read)
 
 pub returns-in_err-explain-in-Explain : goal.returns-in_err-explain-in-Explain
 returns-in_err-explain-in-Explain g c =
-    let files = g.F.Folder.files in
-    let old = files c.args.folder.now in
-    let new = files c.explain.new.folder in
-    let unread = IsUnread g.F.Source.ByteSource.remaining g.F.Source.ByteSource.failed old new in
-    let sink = sink_of g.O.ByteSink.contents g.O.ByteSink.failed in
     let refusal = c.in_err-explain-in-Explain.field-0.0 in
     let is : c.from_residual-in_err-explain-in-Explain.result ≡ Err refusal = search rules in
-    rw c.in-Explain.is (refused _ _ _ _ _ _ refusal _ is c.in_err-explain-in-Explain.ensures.files (explain_refused _ _ _ _ _ c.in-Explain.asked refusal c.in_err-explain-in-Explain.ensures.exact) (λ one. absurd (explain_no_table old new unread (sink c.args.out.now) (sink c.explain.new.out) c.in-Explain.asked refusal c.in_err-explain-in-Explain.ensures.exact (of_table refusal one))))
+    rw (c.in-Explain.is, is) (explain_refused _ _ _ _ _ c.in-Explain.asked refusal c.in_err-explain-in-Explain.ensures.exact c.in_err-explain-in-Explain.ensures.files)
 
 pub returns-in_err-cores-in-Inspect : goal.returns-in_err-cores-in-Inspect
 returns-in_err-cores-in-Inspect g c =
     let refusal = c.in_err-cores-in-Inspect.field-0.0 in
     let is : c.from_residual-in_err-cores-in-Inspect.result ≡ Err refusal = search rules in
-    rw c.in-Inspect.is (refused _ _ _ _ _ _ refusal _ is (keeps_files _ _ _ c.in_err-cores-in-Inspect.ensures.read) (inspect_refused _ _ _ _ _ c.in-Inspect.asked refusal c.in_err-cores-in-Inspect.ensures.cores c.in_err-cores-in-Inspect.ensures.read) (λ one. tt))
+    rw (c.in-Inspect.is, is) (inspect_refused _ _ _ _ _ c.in-Inspect.asked refusal c.in_err-cores-in-Inspect.ensures.cores c.in_err-cores-in-Inspect.ensures.read)
 
 pub returns-in_err-sim-in-Sim : goal.returns-in_err-sim-in-Sim
 returns-in_err-sim-in-Sim g c =
     let refusal = c.in_err-sim-in-Sim.field-0.0 in
     let is : c.from_residual-in_err-sim-in-Sim.result ≡ Err refusal = search rules in
-    rw c.in-Sim.is (refused _ _ _ _ _ _ refusal _ is c.in_err-sim-in-Sim.ensures.files (sim_refused _ _ _ _ _ c.in-Sim.asked refusal c.in_err-sim-in-Sim.ensures.exact) (λ one. tt))
+    rw (c.in-Sim.is, is) (sim_refused _ _ _ _ _ c.in-Sim.asked refusal c.in_err-sim-in-Sim.ensures.exact c.in_err-sim-in-Sim.ensures.files)
 
 pub returns-in_err-run-in-Run : goal.returns-in_err-run-in-Run
 returns-in_err-run-in-Run g c =
     let refusal = c.in_err-run-in-Run.field-0.0 in
     let is : c.from_residual-in_err-run-in-Run.result ≡ Err refusal = search rules in
-    rw c.in-Run.is (refused _ _ _ _ _ _ refusal _ is c.in_err-run-in-Run.ensures.files (run_refused _ _ _ _ _ c.in-Run.asked refusal c.in_err-run-in-Run.ensures.exact) (λ one. tt))
+    rw (c.in-Run.is, is) (run_refused _ _ _ _ _ c.in-Run.asked refusal c.in_err-run-in-Run.ensures.exact c.in_err-run-in-Run.ensures.files)
 
 pub returns-in_err-upgrade-in-Upgrade : goal.returns-in_err-upgrade-in-Upgrade
 returns-in_err-upgrade-in-Upgrade g c =
     let refusal = c.in_err-upgrade-in-Upgrade.field-0.0 in
     let is : c.from_residual-in_err-upgrade-in-Upgrade.result ≡ Err refusal = search rules in
-    rw c.in-Upgrade.is (refused _ _ _ _ _ _ refusal _ is (λ name none. c.in_err-upgrade-in-Upgrade.ensures.files name (λ core below same. none (core, below, same))) (upgrade_refused _ _ _ _ _ c.in-Upgrade.asked refusal c.in_err-upgrade-in-Upgrade.ensures.exact) (λ one. tt))
+    rw (c.in-Upgrade.is, is) (upgrade_refused _ _ _ _ _ c.in-Upgrade.asked refusal c.in_err-upgrade-in-Upgrade.ensures.exact c.in_err-upgrade-in-Upgrade.ensures.files)
 
 pub returns-in_err-search-in-Search : goal.returns-in_err-search-in-Search
 returns-in_err-search-in-Search g c =
-    let files = g.F.Folder.files in
-    let old = files c.args.folder.now in
-    let new = files c.search.new.folder in
-    let unread = IsUnread g.F.Source.ByteSource.remaining g.F.Source.ByteSource.failed old new in
-    let sink = sink_of g.O.ByteSink.contents g.O.ByteSink.failed in
     let refusal = c.in_err-search-in-Search.field-0.0 in
     let is : c.from_residual-in_err-search-in-Search.result ≡ Err refusal = search rules in
-    rw c.in-Search.is (refused _ _ _ _ _ _ refusal _ is c.in_err-search-in-Search.ensures.files (search_refused _ _ _ _ _ c.in-Search.asked refusal c.in_err-search-in-Search.ensures.exact) (λ one. absurd (search_no_table old new unread (sink c.args.out.now) (sink c.search.new.out) c.in-Search.asked refusal c.in_err-search-in-Search.ensures.exact (of_table refusal one))))
+    rw (c.in-Search.is, is) (search_refused _ _ _ _ _ c.in-Search.asked refusal c.in_err-search-in-Search.ensures.exact c.in_err-search-in-Search.ensures.files)
 
 pub returns-in_err-answer-in-Confirm : goal.returns-in_err-answer-in-Confirm
 returns-in_err-answer-in-Confirm g c =
-    let files = g.F.Folder.files in
-    let old = files c.args.folder.now in
-    let new = files c.confirm.new.folder in
-    let unread = IsUnread g.F.Source.ByteSource.remaining g.F.Source.ByteSource.failed old new in
-    let sink = sink_of g.O.ByteSink.contents g.O.ByteSink.failed in
     let refusal = c.in_err-answer-in-Confirm.field-0.0 in
     let is : c.from_residual-in_err-answer-in-Confirm.result ≡ Err refusal = search rules in
-    rw c.in-Confirm.is (refused _ _ _ _ _ _ refusal _ is (keeps_files _ _ _ c.in_err-answer-in-Confirm.ensures.read) (confirm_refused _ _ _ _ _ c.in-Confirm.asked refusal c.in_err-answer-in-Confirm.ensures.exact c.in_err-answer-in-Confirm.ensures.read) (λ one. absurd (confirm_no_table old new unread (sink c.args.out.now) (sink c.args.out.now) c.in-Confirm.asked refusal c.in_err-answer-in-Confirm.ensures.exact (of_table refusal one))))
+    rw (c.in-Confirm.is, is) (confirm_refused _ _ _ _ _ c.in-Confirm.asked refusal c.in_err-answer-in-Confirm.ensures.exact c.in_err-answer-in-Confirm.ensures.read)
 
 pub returns-in_err-answer-in-Vet : goal.returns-in_err-answer-in-Vet
 returns-in_err-answer-in-Vet g c =
     let refusal = c.in_err-answer-in-Vet.field-0.0 in
     let is : c.from_residual-in_err-answer-in-Vet.result ≡ Err refusal = search rules in
-    rw c.in-Vet.is (refused _ _ _ _ _ _ refusal _ is (keeps_files _ _ _ c.in_err-answer-in-Vet.ensures.read) (vet_refused _ _ _ _ _ c.in-Vet.asked refusal c.in_err-answer-in-Vet.ensures.exact c.in_err-answer-in-Vet.ensures.read) (λ one. tt))
+    rw (c.in-Vet.is, is) (vet_refused _ _ _ _ _ c.in-Vet.asked refusal c.in_err-answer-in-Vet.ensures.exact c.in_err-answer-in-Vet.ensures.read)
 
 pub returns-in_err-count_outcomes-in-Litmus : goal.returns-in_err-count_outcomes-in-Litmus
 returns-in_err-count_outcomes-in-Litmus g c =
     let refusal = c.in_err-count_outcomes-in-Litmus.field-0.0 in
     let is : c.from_residual-in_err-count_outcomes-in-Litmus.result ≡ Err refusal = search rules in
-    rw c.in-Litmus.is (refused _ _ _ _ _ _ refusal _ is c.in_err-count_outcomes-in-Litmus.ensures.files (litmus_refused _ _ _ _ _ c.in-Litmus.asked refusal c.in_err-count_outcomes-in-Litmus.ensures.exact) (λ one. tt))
+    rw (c.in-Litmus.is, is) (litmus_refused _ _ _ _ _ c.in-Litmus.asked refusal c.in_err-count_outcomes-in-Litmus.ensures.exact c.in_err-count_outcomes-in-Litmus.ensures.files)
 
-pub returns-in_ok-verdict-in-Check : goal.returns-in_ok-verdict-in-Check
-returns-in_ok-verdict-in-Check g c =
-    rw c.in-Check.is (printed _ _ _ _ _ _ (Judged c.in_ok-verdict-in-Check.verdict) _ c.print_answer.ensures.ok c.print_answer.ensures.err (keeps_files _ _ _ c.in_ok-verdict-in-Check.ensures.read)
-    (λ zero. record { sound = consistent_files (g.F.Folder.files c.args.folder.now).told (IsUnread g.F.Source.ByteSource.remaining g.F.Source.ByteSource.failed (g.F.Folder.files c.args.folder.now) (g.F.Folder.files c.check.new.folder)) c.in-Check.asked _ c.in_ok-verdict-in-Check.ensures.exact (yes_of _ zero); flat = flat_files (g.F.Folder.files c.args.folder.now).told (IsUnread g.F.Source.ByteSource.remaining g.F.Source.ByteSource.failed (g.F.Folder.files c.args.folder.now) (g.F.Folder.files c.check.new.folder)) c.in-Check.asked _ c.in_ok-verdict-in-Check.ensures.exact (yes_of _ zero); order = tt; upgraded = tt; yes = λ apart. tt }) (check_no _ (IsUnread g.F.Source.ByteSource.remaining g.F.Source.ByteSource.failed (g.F.Folder.files c.args.folder.now) (g.F.Folder.files c.check.new.folder)) c.in-Check.asked _ c.in_ok-verdict-in-Check.ensures.exact) tt)
+pub returns-in_ok-found-in-Check : goal.returns-in_ok-found-in-Check
+returns-in_ok-found-in-Check g c =
+    rw c.in-Check.is (printed _ _ _ _ _ _ (Judged c.in_ok-found-in-Check.found.examined.verdict) _ (rw c.verdict.ensures at c.print_answer.ensures.ok) c.print_answer.ensures.err (keeps_files _ _ _ c.in_ok-found-in-Check.ensures.read)
+    (λ zero. record { sound = consistent_files (g.F.Folder.files c.args.folder.now).told (IsUnread g.F.Source.ByteSource.remaining g.F.Source.ByteSource.failed (g.F.Folder.files c.args.folder.now) (g.F.Folder.files c.check.new.folder)) c.in-Check.asked _ c.in_ok-found-in-Check.ensures.exact (yes_of _ zero); flat = flat_files (g.F.Folder.files c.args.folder.now).told (IsUnread g.F.Source.ByteSource.remaining g.F.Source.ByteSource.failed (g.F.Folder.files c.args.folder.now) (g.F.Folder.files c.check.new.folder)) c.in-Check.asked _ c.in_ok-found-in-Check.ensures.exact (yes_of _ zero); order = tt; upgraded = tt; yes = λ apart. tt }) (check_no _ (IsUnread g.F.Source.ByteSource.remaining g.F.Source.ByteSource.failed (g.F.Folder.files c.args.folder.now) (g.F.Folder.files c.check.new.folder)) c.in-Check.asked _ c.in_ok-found-in-Check.ensures.exact) tt)
 
 pub returns-in_ok-cores-in-Inspect : goal.returns-in_ok-cores-in-Inspect
 returns-in_ok-cores-in-Inspect g c =
@@ -164,14 +139,9 @@ returns-in-Version g c =
 
 pub returns-in_err-replay-in-Replay : goal.returns-in_err-replay-in-Replay
 returns-in_err-replay-in-Replay g c =
-    let files = g.F.Folder.files in
-    let old = files c.args.folder.now in
-    let new = files c.replay.new.folder in
-    let unread = IsUnread g.F.Source.ByteSource.remaining g.F.Source.ByteSource.failed old new in
-    let sink = sink_of g.O.ByteSink.contents g.O.ByteSink.failed in
     let refusal = c.in_err-replay-in-Replay.field-0.0 in
     let is : c.from_residual-in_err-replay-in-Replay.result ≡ Err refusal = search rules in
-    rw c.in-Replay.is (refused _ _ _ _ _ _ refusal _ is (keeps_files _ _ _ c.in_err-replay-in-Replay.ensures.read) (replay_refused _ _ _ _ _ c.in-Replay.asked refusal c.in_err-replay-in-Replay.ensures.exact c.in_err-replay-in-Replay.ensures.read) (λ one. absurd (replay_no_table old new unread (sink c.args.out.now) (sink c.replay.new.out) c.in-Replay.asked refusal c.in_err-replay-in-Replay.ensures.exact (of_table refusal one))))
+    rw (c.in-Replay.is, is) (replay_refused _ _ _ _ _ c.in-Replay.asked refusal c.in_err-replay-in-Replay.ensures.exact c.in_err-replay-in-Replay.ensures.read)
 
 pub returns-in_ok-replay-in-Replay : goal.returns-in_ok-replay-in-Replay
 returns-in_ok-replay-in-Replay g c =

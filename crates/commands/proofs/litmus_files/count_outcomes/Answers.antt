@@ -41,10 +41,10 @@ returns-clause-exact g c =
     let files = g.F.Folder.files in
     let asked = c.args.asked.now in
     let collected = c.in_ok-collected.collected in
-    let after = files c.put_text.new.folder in
+    let after = files c.put_under.new.folder in
     let (order, t, test, (made, by, same)) = c.in_ok-collected.ensures.ok in
     let text : IfSome asked.statistics (λ name. c.as_slice.result.now ≡ totals_text collected.totals) = rw c.as_slice.ensures.value c.in-Ok.ensures in
-    let puts = same_text _ after asked.statistics c.as_slice.result.now (totals_text collected.totals) text c.in_ok-put_text.ensures.ok in (
+    let puts = same_text _ after asked.statistics c.as_slice.result.now (totals_text collected.totals) text c.in_ok-put_under.ensures.ok in (
       order,
       t,
       test,

@@ -1,4 +1,4 @@
-use Rattle.std.proofs.Common.{rules, inl, ◌≡◌, ◌≤◌, ◌∙◌, length, refl, sym, Err, arith}
+use Rattle.std.proofs.Common.{rules, ◌≡◌, ◌≤◌, ◌∙◌, length, refl, sym, Err, arith}
 use Rattle.std.proofs.lemmas.Slice.Zip.{AllZip-long}
 use Rattle.log_record.specs.Entries.{record_lists}
 use Rattle.verdict.specs.SetFaults.{from_set}
@@ -13,13 +13,13 @@ returns-in_err-sources-clause-err g c =
     let files = g.F.Folder.files in
     let is : c.from_residual.result ≡ Err c.in_err-sources.field-0.0 = search rules in
     rw is (unopened_files g.F.Source.ByteSource.remaining g.F.Source.ByteSource.failed (files c.args.folder.now) (files c.open_all.new.folder) c.args.names.now
-    c.in_err-sources.field-0.0 c.in_err-sources.ensures.err c.in_err-sources.ensures.read)
+    c.in_err-sources.field-0.0 c.in_err-sources.ensures.err)
 
 pub read-requires : goal.read-requires
 read-requires g c =
     let are : AreSourcesOf (g.F.Folder.files c.args.folder.now).told g.F.Source.ByteSource.remaining c.as_mut_slice.result.now c.args.names.now = search rules in
     let long = AllZip-long _ _ c.args.names.now are in
-    let few : length c.as_mut_slice.result.now ≤ 64 = omega (arith, long, c.requires) in
+    let few : length c.as_mut_slice.result.now ≤ 64 = omega (arith, long, c.in_ok-sources.ensures.range.1) in
     search rules
 
 pub returns-in_err-set-clause-err : goal.returns-in_err-set-clause-err
@@ -34,13 +34,13 @@ returns-in_err-set-clause-err g c =
     let e = c.in_err-set.field-0.0 in
     let (texts, tell, is) = c.in_err-set.ensures.answer in
     let told_so : c.from_residual-in_err-set.result ≡ Err (from_set e.file e.fault) = search rules in
-    rw told_so (faulty old new (IsUnread remaining failed old new) names texts e.file e.fault c.in_ok-sources.ensures.quiet (told_by_sources old.told remaining _ names texts are tell) is
+    rw told_so (faulty old.told (IsUnread remaining failed old new) names texts e.file e.fault c.in_ok-sources.ensures.range (told_by_sources old.told remaining _ names texts are tell) is
     (λ fails. unread_at remaining failed old new _ _ names e.file are (c.in_err-set.ensures.read fails)))
 
 pub returns-in_err-logs-clause-err : goal.returns-in_err-logs-clause-err
 returns-in_err-logs-clause-err g c =
     let is : c.from_residual-in_err-logs.result ≡ Err OutOfMemory = search rules in
-    rw is (inl c.in_ok-sources.ensures.quiet)
+    rw is tt
 
 pub returns-clause-ok : goal.returns-clause-ok
 returns-clause-ok g c =

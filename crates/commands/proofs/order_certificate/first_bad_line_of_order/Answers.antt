@@ -1,8 +1,10 @@
-use Rattle.std.proofs.Common.{rules, ◌≡◌, List, length, subst}
+use Rattle.std.proofs.Common.{rules, ◌≡◌, ℕ, List, length, subst}
+use Rattle.std.specs.Prelude.{IfOk}
 use Rattle.mem_op.specs.Consistency.{IsSequentialOrder}
 use Rattle.mem_op.specs.declared.id.OpId.{OpId}
 use Rattle.commands.specs.OrderTexts.{ComeInOrder, IsFirstWrongPlace}
-use Rattle.commands.proofs.OrderLines.{ending, wrong_line}
+use Rattle.commands.specs.inner.Certificates.{TellsEnd}
+use Rattle.commands.proofs.OrderLines.{ended, wrong_line}
 use Rattle.commands.proofs.order_certificate.first_bad_line_of_order.Goals as goal
 
 pub returns-in-Some : goal.returns-in-Some
@@ -20,5 +22,6 @@ returns c =
     let first = rw c.in_default.is at c.in_ok-place.ensures.first in
     let right = subst (λ (s : List OpId). ComeInOrder cores s (length s)) c.as_slice.ensures.value first.0 in
     let order = subst (IsSequentialOrder cores) c.as_slice.ensures.value first.1 in
-    let count : c.len-count.result ≡ length ids = search rules in
-    ending cores c.args.text.now c.in_ok-front.front.rest.now ids c.len-count.result c.bad_end.result count c.in_ok-front.ensures.begins right order c.bad_end.ensures
+    let count : c.len.result ≡ length ids = search rules in
+    let tells = subst (λ (n : ℕ). IfOk c.bad_end.result (TellsEnd c.in_ok-front.front.rest.now n)) count c.bad_end.ensures in
+    ended cores c.args.text.now c.in_ok-front.front.rest.now ids c.bad_end.result c.in_ok-front.ensures.begins right order tells

@@ -4,19 +4,10 @@ use Rattle.verdict.specs.Counts.{IsInRange}
 use Rattle.host_files.specs.Files.{IsUnread}
 use Rattle.commands.specs.Sinks.{sink_of}
 use Rattle.commands.specs.LogFiles.{AreSourcesOf}
-use Rattle.commands.proofs.LogFiles.{files_refused, told_by_sources}
-use Rattle.commands.proofs.Orders.{merged, not_counted, not_opened, reads_at, taken}
+use Rattle.commands.proofs.LogFiles.{told_by_sources}
+use Rattle.commands.proofs.Orders.{merged, not_opened, reads_at, taken}
 use Rattle.commands.specs.Refusals.{from_judge, from_merge}
 use Rattle.commands.proofs.order_files.order.Goals as goal
-
-pub returns-in_err-check_counts-clause-exact : goal.returns-in_err-check_counts-clause-exact
-returns-in_err-check_counts-clause-exact g c =
-    let files = g.F.Folder.files in
-    let old = files c.args.folder.now in
-    let is : c.from_residual.result ≡ Err (from_judge c.in_err-check_counts.field-0.0) = search rules in
-    let many : c.len.result ≡ vec_len c.args.asked.now.files = search rules in
-    rw is (not_counted old.told (IsUnread g.F.Source.ByteSource.remaining g.F.Source.ByteSource.failed old old) c.args.asked.now (sink_of g.O.ByteSink.contents g.O.ByteSink.failed c.args.out.now) c.len.result c.in_err-check_counts.field-0.0 many
-    (files_refused c.len.result c.in_err-check_counts.field-0.0 c.in_err-check_counts.ensures.ok c.in_err-check_counts.ensures.err c.in_err-check_counts.ensures.files c.in_err-check_counts.ensures.workers))
 
 pub returns-in_err-sources-clause-exact : goal.returns-in_err-sources-clause-exact
 returns-in_err-sources-clause-exact g c =
@@ -26,10 +17,8 @@ returns-in_err-sources-clause-exact g c =
     let sink = sink_of g.O.ByteSink.contents g.O.ByteSink.failed in
     let remaining = g.F.Source.ByteSource.remaining in
     let failed = g.F.Source.ByteSource.failed in
-    let names = c.args.asked.now.files.items in
-    let range : IsInRange (vec_len c.args.asked.now.files) = search rules in
-    let is : c.from_residual-in_err-sources.result ≡ Err (from_judge c.in_err-sources.field-0.0) = search rules in
-    rw is (not_opened remaining failed old new c.args.asked.now (sink c.args.out.now) c.in_err-sources.field-0.0 range (search rules))
+    let is : c.from_residual.result ≡ Err (from_judge c.in_err-sources.field-0.0) = search rules in
+    rw is (not_opened remaining failed old new c.args.asked.now (sink c.args.out.now) c.in_err-sources.field-0.0 (search rules))
 
 pub returns-in_err-merge_judge-clause-exact : goal.returns-in_err-merge_judge-clause-exact
 returns-in_err-merge_judge-clause-exact g c =

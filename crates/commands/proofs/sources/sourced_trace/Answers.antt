@@ -1,4 +1,4 @@
-use Rattle.std.proofs.Common.{rules, ◌≡◌, ◌≤◌, List, length, subst, sym, vec_len}
+use Rattle.std.proofs.Common.{◌≤◌, List, length, subst, sym, vec_len}
 use Rattle.std.specs.Prelude.{All}
 use Rattle.std.specs.Global.{Vec}
 use Rattle.log_record.specs.declared.record.Record.{Record}

@@ -5,23 +5,15 @@ use Rattle.log_record.specs.Entries.{record_lists}
 use Rattle.log_record.specs.declared.record.Record.{Record}
 use Rattle.verdict.specs.Counts.{IsInRange}
 use Rattle.host_files.specs.Files.{Files, IsUnread}
-use Rattle.commands.specs.LogFiles.{IsUnspelled, Spelled}
+use Rattle.commands.specs.LogFiles.{Spelled}
 use Rattle.commands.proofs.Files.{keeps_told}
-use Rattle.commands.proofs.LogFiles.{files_refused, only_read}
 use Rattle.commands.specs.Logs.{ArePut, ArePutUpTo, IsUnwritten, KeepsOthers}
 use Rattle.log_record.specs.declared.format.Format.TheVariants.{Two}
 use Rattle.commands.specs.inner.ReadLogs.{read_log_of}
-use Rattle.commands.proofs.Upgrades.{not_counted, not_read, not_written, written}
+use Rattle.commands.specs.inner.ReadTraces.{AreLogless}
+use Rattle.commands.proofs.Upgrades.{not_read, not_written, written}
 use Rattle.commands.specs.Refusals.{from_judge}
 use Rattle.commands.proofs.upgrade_files.upgrade.Goals as goal
-
-pub returns-in_err-check_counts-clause-exact : goal.returns-in_err-check_counts-clause-exact
-returns-in_err-check_counts-clause-exact g c =
-    let old = g.F.Folder.files c.args.folder.now in
-    let is : c.from_residual.result ≡ Err (from_judge c.in_err-check_counts.field-0.0) = search rules in
-    let files : c.len.result ≡ vec_len c.args.asked.now.files = search rules in
-    rw is (not_counted old (IsUnread g.F.Source.ByteSource.remaining g.F.Source.ByteSource.failed old old) c.args.asked.now c.len.result c.in_err-check_counts.field-0.0 files
-    (files_refused c.len.result c.in_err-check_counts.field-0.0 c.in_err-check_counts.ensures.ok c.in_err-check_counts.ensures.err c.in_err-check_counts.ensures.files c.in_err-check_counts.ensures.workers))
 
 pub returns-in_err-read-clause-exact : goal.returns-in_err-read-clause-exact
 returns-in_err-read-clause-exact g c =
@@ -29,18 +21,14 @@ returns-in_err-read-clause-exact g c =
     let old = files c.args.folder.now in
     let new = files c.read_log_files.new.folder in
     let unread = IsUnread g.F.Source.ByteSource.remaining g.F.Source.ByteSource.failed old new in
-    let is : c.from_residual-in_err-read.result ≡ Err (from_judge c.in_err-read.field-0.0) = search rules in
-    let range : IsInRange (vec_len c.args.asked.now.files) = search rules in
-    rw is (not_read old new unread c.args.asked.now c.in_err-read.field-0.0 range
-    (subst (λ (names : List (Bor (List ℕ))). IsUnspelled old new unread names c.in_err-read.field-0.0) c.as_slice.ensures.value c.in_err-read.ensures.err))
+    let refusal = from_judge c.in_err-read.field-0.0 in
+    let is : c.from_residual.result ≡ Err refusal = search rules in
+    rw is (not_read old new unread c.args.asked.now refusal
+    (subst (λ (names : List (Bor (List ℕ))). AreLogless old.told unread names refusal) c.as_slice.ensures.value c.in_err-read.ensures.err) c.in_err-read.ensures.read)
 
 pub returns-in_err-read-clause-files : goal.returns-in_err-read-clause-files
 returns-in_err-read-clause-files g c name none =
-    let files = g.F.Folder.files in
-    let old = files c.args.folder.now in
-    let new = files c.read_log_files.new.folder in
-    let unread = IsUnread g.F.Source.ByteSource.remaining g.F.Source.ByteSource.failed old new in
-    ap (λ (told : List ℕ → Option (List ℕ)). told name) (keeps_told old new (only_read old new unread c.as_slice.result.now c.in_err-read.field-0.0 c.in_err-read.ensures.err))
+    ap (λ (told : List ℕ → Option (List ℕ)). told name) (keeps_told (g.F.Folder.files c.args.folder.now) (g.F.Folder.files c.read_log_files.new.folder) c.in_err-read.ensures.read)
 
 -- the logs that were read are those that are written
 read_logs : (told : List ℕ → Option (List ℕ)) (names given : List (Bor (List ℕ))) (read written : List (Vec Record)) → names ≡ given → read ≡ written

@@ -12,7 +12,7 @@ use Rattle.commands.specs.Checking as checking
 use Rattle.commands.proofs.Checks.{against, not_programmed}
 use Rattle.commands.proofs.Explained.{given_is}
 use Rattle.commands.specs.Refusals.{from_judge}
-use Rattle.commands.proofs.check_files.examine_asked.Goals as goal
+use Rattle.commands.proofs.check_files.check.Goals as goal
 
 -- the reading of the programs left the folder as it was, and these are the programs
 as_it_was : {S : Type 0} (remaining : S → Option (List ℕ)) (failed : S → ℕ) (old now new : Files) (asked : Check) (lent programs : Option (List (List Instruction))) (answer : Result Verdict JudgeFault)
