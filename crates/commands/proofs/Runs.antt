@@ -4,7 +4,7 @@ use Rattle.std.specs.Prelude.{Option, None, Result, Ok, Err, IfErr, IfOk, OnOk}
 use Rattle.command_line.specs.declared.request.Sim.{Sim}
 use Rattle.lease_rule.specs.Ranges.{first_bad}
 use Rattle.core_program.specs.SetParts.{SetParts}
-use Rattle.schedule.specs.declared.command.Command.{Command}
+use Rattle.simulation.specs.declared.command.Command.{Command}
 use Rattle.simulation.specs.Simulating.{IsSimulated, IsSimulationFault}
 use Rattle.simulation.specs.declared.fault.SimulationFault.{SimulationFault}
 use Rattle.core_machine.specs.Opening.{opening_parts}

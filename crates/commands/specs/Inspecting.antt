@@ -4,7 +4,7 @@ use Rattle.commands.specs.Programs.{AreProgramsIn, IsUnprogrammed}
 use Rattle.command_line.specs.declared.request.FileKind.{FileKind}
 use Rattle.command_line.specs.declared.request.FileKind.TheVariants.{Litmus, Programs, Trace}
 use Rattle.core_program.specs.SetParts.{SetParts}
-use Rattle.litmus_test.specs.Parts.{LitmusParts}
+use Rattle.litmus.specs.Parts.{LitmusParts}
 use Rattle.mem_op.specs.Consistency.{Operation}
 use Rattle.commands.specs.Tabling.{IsTestIn, IsUntested}
 use Rattle.commands.specs.Traces.{IsNoTrace, SpellsTraceAt}

@@ -7,9 +7,9 @@ use Rattle.core_program.specs.FaultTexts.{fault_text as program_fault_text}
 use Rattle.core_program.specs.declared.fault.ProgramFault.{ProgramFault}
 use Rattle.core_program.specs.declared.fault.ProgramFault.TheVariants as program
 use Rattle.lease_rule.specs.Faults.{fault_text as config_fault_text}
-use Rattle.litmus_test.specs.FaultTexts.{fault_text as test_fault_text}
-use Rattle.litmus_test.specs.declared.fault.LitmusFault.{LitmusFault}
-use Rattle.litmus_test.specs.declared.fault.LitmusFault.TheVariants as test
+use Rattle.litmus.specs.TestFaultTexts.{fault_text as test_fault_text}
+use Rattle.litmus.specs.declared.litmus_fault.LitmusFault.{LitmusFault}
+use Rattle.litmus.specs.declared.litmus_fault.LitmusFault.TheVariants as test
 use Rattle.litmus.specs.declared.run_cause.RunCause.{RunCause}
 use Rattle.litmus.specs.declared.run_cause.RunCause.TheVariants as cause
 use Rattle.litmus.specs.RunFaults.{cause_text, fault_text as table_fault_text}
@@ -21,9 +21,9 @@ use Rattle.machine.specs.Faults.{fault_text as run_fault_text}
 use Rattle.merge_judge.specs.declared.merge_fault.MergeFault.{MergeFault}
 use Rattle.merge_judge.specs.declared.merge_fault.MergeFault.TheVariants as merge
 use Rattle.refutation.specs.FaultTexts.{fault_text as certificate_fault_text}
-use Rattle.schedule.specs.FaultTexts.{fault_text as schedule_fault_text}
-use Rattle.schedule.specs.declared.fault.ScheduleFault.{ScheduleFault}
-use Rattle.schedule.specs.declared.fault.ScheduleFault.TheVariants as schedule
+use Rattle.simulation.specs.ScheduleFaultTexts.{fault_text as schedule_fault_text}
+use Rattle.simulation.specs.declared.schedule_fault.ScheduleFault.{ScheduleFault}
+use Rattle.simulation.specs.declared.schedule_fault.ScheduleFault.TheVariants as schedule
 use Rattle.simulation.specs.Faults.{fault_text as simulation_fault_text}
 use Rattle.trace.specs.FaultTexts.{fault_text as trace_fault_text}
 use Rattle.trace.specs.declared.fault.TraceFault.{TraceFault}

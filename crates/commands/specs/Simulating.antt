@@ -6,10 +6,10 @@ use Rattle.command_line.specs.declared.request.Sim.{Sim}
 use Rattle.lease_rule.specs.Ranges.{first_bad}
 use Rattle.core_program.specs.SetParts.{SetParts}
 use Rattle.log_file.specs.Devices.{Tells}
-use Rattle.schedule.specs.Answers.{IsFault as IsScheduleFault, Spells as SpellsSchedule}
-use Rattle.schedule.specs.declared.command.Command.{Command}
-use Rattle.schedule.specs.declared.fault.ScheduleFault.{ScheduleFault}
-use Rattle.schedule.specs.declared.fault.ScheduleFault.TheVariants.{OutOfMemory as NoScheduleMemory}
+use Rattle.simulation.specs.Schedules.{IsFault as IsScheduleFault, Spells as SpellsSchedule}
+use Rattle.simulation.specs.declared.command.Command.{Command}
+use Rattle.simulation.specs.declared.schedule_fault.ScheduleFault.{ScheduleFault}
+use Rattle.simulation.specs.declared.schedule_fault.ScheduleFault.TheVariants.{OutOfMemory as NoScheduleMemory}
 use Rattle.core_machine.specs.Opening.{opening_parts}
 use Rattle.core_machine.specs.Parts.{CoreParts, world}
 use Rattle.core_machine.specs.Works.{log_at}

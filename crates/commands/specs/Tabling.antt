@@ -6,13 +6,13 @@ use Rattle.std.specs.List.{AllByRecursion, list_any}
 use Rattle.command_line.specs.declared.request.LitmusRuns.{LitmusRuns}
 use Rattle.core_program.specs.Shape.{IsProgram}
 use Rattle.lease_rule.specs.Ranges.{first_bad}
-use Rattle.litmus_test.specs.Answers.{IsFault, Spells}
+use Rattle.litmus.specs.Tests.{IsFault, Spells}
 use Rattle.lease_rule.specs.ConfigParts.{ConfigParts}
 use Rattle.litmus.specs.Collecting.{IsBadRunCount, IsCollectFault, IsRunCount, IsSeededTable, IsThreadFault, IsThreadTable}
-use Rattle.litmus_test.specs.Parts.{LitmusParts}
-use Rattle.litmus_test.specs.declared.fault.LitmusFault.TheVariants.{OutOfMemory as NoTestMemory}
-use Rattle.litmus_test.specs.TableParts.{TableParts}
-use Rattle.litmus_test.specs.TableText.{table_text}
+use Rattle.litmus.specs.Parts.{LitmusParts}
+use Rattle.litmus.specs.declared.litmus_fault.LitmusFault.TheVariants.{OutOfMemory as NoTestMemory}
+use Rattle.litmus.specs.TableParts.{TableParts}
+use Rattle.litmus.specs.TableText.{table_text}
 use Rattle.litmus.specs.declared.collecting.Collected.{Collected}
 use Rattle.litmus.specs.declared.run_fault.CollectFault.{CollectFault}
 use Rattle.litmus.specs.declared.run_fault.CollectFault.TheVariants.{BadRuns, Run as RunFailed}

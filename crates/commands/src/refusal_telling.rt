@@ -8,7 +8,7 @@ use super::refused_file::{
     RefusedCertificate, RefusedFile, TextFault, certificate_again, text_again,
 };
 use host_files::Folder;
-use litmus_test::LitmusFault;
+use litmus::LitmusFault;
 use log_file::{ByteSink, FormatFault, write_all};
 use std::alloc::{AllocError, Global};
 use telling::{Kind, Place, Refused, Telling};
@@ -140,9 +140,7 @@ fn certificate_text<F: Folder>(
     };
     let telling = Telling {
         place,
-        read: read
-            .as_ref()
-            .map(|read| (Refused::BadCertificate(&read.0), read.1.as_slice())),
+        read: read.as_ref().map(|read| (Refused::BadCertificate(&read.0), read.1.as_slice())),
     };
     telling.print(alloc)
 }

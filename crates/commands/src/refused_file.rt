@@ -10,7 +10,7 @@ use super::trace_file::read_trace;
 use command_line::TraceFiles;
 use core_program::{ProgramFault, ProgramSet};
 use host_files::Folder;
-use litmus_test::{Litmus, LitmusFault};
+use litmus::{Litmus, LitmusFault};
 use log_file::{FormatFault, LogFault, LogReader};
 use mem_op::CoreId;
 use refutation::CertificateFault;

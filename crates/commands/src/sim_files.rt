@@ -18,8 +18,7 @@ use core_program::ProgramSet;
 use host_files::Folder;
 use lease_rule::Config;
 use log_file::ReadFault;
-use schedule::{Command, parse};
-use simulation::{print_events, simulate};
+use simulation::{Command, parse_schedule, print_events, simulate};
 use std::alloc::Global;
 use tardis_core::{Core, CoreFault};
 
@@ -124,6 +123,6 @@ fn read_schedule<F: Folder>(
         Err(ReadFault::Read) => return Err(Refusal::Unread(Input::Schedule)),
         Err(ReadFault::OutOfMemory) => return Err(Refusal::OutOfMemory),
     };
-    let commands = parse(alloc, text.as_slice(), cores)?;
+    let commands = parse_schedule(alloc, text.as_slice(), cores)?;
     Ok(commands)
 }

@@ -7,7 +7,7 @@ use Rattle.lease_rule.specs.ConfigParts.{ConfigParts}
 use Rattle.core_machine.specs.Machine.{World}
 use Rattle.core_machine.specs.Parts.{CoreParts, world}
 use Rattle.litmus.specs.Collecting.{AreEndsOf}
-use Rattle.litmus_test.specs.Parts.{LitmusParts}
+use Rattle.litmus.specs.Parts.{LitmusParts}
 use Rattle.litmus.specs.Ends.{ThreadEnd, left, outcome_of}
 use Rattle.litmus.specs.Runs.{IsEndOf, IsSeededRun, IsThreadRun, seed_of, seeded_numbers, stress_of, thread_numbers}
 use Rattle.statistics.specs.Runs.{RunNumbers}

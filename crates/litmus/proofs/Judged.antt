@@ -3,7 +3,7 @@ use Rattle.std.proofs.Common.{◌≡◌, Ok, Err}
 use Rattle.std.specs.Prelude.{Result, MatchResult}
 use Rattle.core_machine.specs.Machine.{World}
 use Rattle.statistics.specs.Runs.{RunNumbers}
-use Rattle.litmus_test.specs.Parts.{LitmusParts}
+use Rattle.litmus.specs.Parts.{LitmusParts}
 use Rattle.litmus.specs.Ends.{GetsYes, IsJudgeCause, outcome_of}
 use Rattle.litmus.specs.declared.run_cause.RunCause.{RunCause}
 use Rattle.litmus.specs.Runs.{IsCauseOf, IsEndOf, not_yes}

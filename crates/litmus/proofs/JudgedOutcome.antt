@@ -21,10 +21,10 @@ use Rattle.verdict.specs.declared.judge_fault.Count.{Count}
 use Rattle.verdict.specs.declared.judge_fault.JudgeFault.{JudgeFault}
 use Rattle.verdict.specs.declared.judge_fault.JudgeFault.TheVariants as fault
 use Rattle.verdict.proofs.OneAnswer.{one_answer}
-use Rattle.litmus_test.specs.Parts.{LitmusParts}
+use Rattle.litmus.specs.Parts.{LitmusParts}
 use Rattle.litmus.specs.Ends.{GetsYes, IsJudgeCause, logs_of}
 use Rattle.litmus.specs.declared.run_cause.RunCause.{RunCause}
-use Rattle.litmus_test.specs.inner.Ending.{word_lists}
+use Rattle.litmus.specs.inner.Ending.{word_lists}
 use Rattle.litmus.specs.inner.JudgedOutcome.{IsNo, IsVerdictOn}
 
 -- ---- texts of logs

@@ -3,3 +3,11 @@ pub mod Judged
 pub mod JudgedOutcome
 pub mod NeverNo
 pub mod Tallied
+pub mod Forbids
+pub mod ForbidsRead
+pub mod Headers
+pub mod InFront
+pub mod LastLines
+pub mod LineFaults
+pub mod Plain
+pub mod WordLines

@@ -10,7 +10,7 @@ use Rattle.machine_laws.specs.Laws.{GetYesBy}
 use Rattle.machine_laws.proofs.Below.{ended_below_get_yes, whole_below_get_yes}
 use Rattle.simulation.specs.Events.{simulated_events}
 use Rattle.simulation.proofs.Ended.{simulated_ended}
-use Rattle.litmus_test.specs.Parts.{LitmusParts}
+use Rattle.litmus.specs.Parts.{LitmusParts}
 use Rattle.litmus.specs.Ends.{ThreadEnd, SaysNo, left, logs_of}
 use Rattle.litmus.specs.Runs.{IsCauseOf, IsRunCause, IsSeededRun, IsThreadCause, IsThreadRun, IsUnsimulated, IsUnthreaded, no_memory, not_ended, not_yes}
 use Rattle.litmus.specs.declared.run_cause.RunCause.{RunCause}

@@ -12,10 +12,10 @@ use Rattle.std.specs.Ordering.{is_eq, match_ordering, nat_cmp, ordering_reverse}
 use Rattle.std.specs.declared.cmp.Ordering.{Ordering}
 use Rattle.std.specs.declared.cmp.Ordering.TheVariants.{Less, Equal, Greater}
 use Rattle.std.proofs.lemmas.List.Elements.{filter-append}
-use Rattle.litmus_test.specs.Outcomes.{is_forbidden, is_outcome}
+use Rattle.litmus.specs.Outcomes.{is_forbidden, is_outcome}
 use Rattle.litmus.specs.Collecting.{AreAscending, AreRowsOf, IsRowOf, count_of, total}
-use Rattle.litmus_test.specs.Parts.{LitmusParts}
-use Rattle.litmus_test.specs.TableParts.{RowParts}
+use Rattle.litmus.specs.Parts.{LitmusParts}
+use Rattle.litmus.specs.TableParts.{RowParts}
 use Rattle.litmus.specs.inner.Tallies.{IsTally, count_in, counted, sum_in}
 
 abbrev order : List ℕ → List ℕ → Ordering

@@ -7,12 +7,12 @@ use Rattle.std.specs.declared.cmp.Ordering.TheVariants.{Less}
 use Rattle.lease_rule.specs.ConfigParts.{ConfigParts}
 use Rattle.core_machine.specs.Machine.{World}
 use Rattle.core_machine.specs.Parts.{CoreParts, world}
-use Rattle.litmus_test.specs.Outcomes.{is_forbidden, is_outcome}
-use Rattle.litmus_test.specs.Parts.{LitmusParts}
+use Rattle.litmus.specs.Outcomes.{is_forbidden, is_outcome}
+use Rattle.litmus.specs.Parts.{LitmusParts}
 use Rattle.litmus.specs.Ends.{ThreadEnd, GetsYes, SaysNo, left, outcome_of}
 use Rattle.litmus.specs.Runs.{IsRunCause, IsSeededRun, IsThreadCause, IsThreadRun, seed_of, seeded_numbers, stress_of, thread_numbers}
 use Rattle.litmus.specs.declared.collecting.Collected.{Collected}
-use Rattle.litmus_test.specs.TableParts.{RowParts}
+use Rattle.litmus.specs.TableParts.{RowParts}
 use Rattle.statistics.specs.Runs.{RunNumbers}
 use Rattle.statistics.specs.Totals.{totals_of}
 use Rattle.litmus.specs.declared.run_cause.RunCause.{RunCause}

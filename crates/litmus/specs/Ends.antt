@@ -10,7 +10,7 @@ use Rattle.core_machine.specs.Works.{logs_below}
 use Rattle.audit.specs.Events.{world_of}
 use Rattle.verdict.specs.VerdictOf.{run_verdict_of}
 use Rattle.verdict.specs.declared.answer.Verdict.TheVariants.{Yes, No}
-use Rattle.litmus_test.specs.Parts.{LitmusParts, ShownParts}
+use Rattle.litmus.specs.Parts.{LitmusParts, ShownParts}
 use Rattle.litmus.specs.declared.run_cause.RunCause.{RunCause}
 use Rattle.litmus.specs.declared.run_cause.RunCause.TheVariants as cause
 

@@ -1,5 +1,12 @@
 pub mod Collecting
 pub mod Ends
+pub mod Outcomes
+pub mod Parts
 pub mod RunFaults
 pub mod Runs
+pub mod TableParts
+pub mod TableText
+pub mod TestFaultTexts
+pub mod TestGrammar
+pub mod Tests
 pub mod inner

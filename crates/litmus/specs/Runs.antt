@@ -15,7 +15,7 @@ use Rattle.simulation.specs.Events.{IsSimulatedByRun}
 use Rattle.simulation.specs.Simulating.{IsSimulationFault}
 use Rattle.simulation.specs.declared.fault.SimulationFault.{SimulationFault}
 use Rattle.statistics.specs.Runs.{RunNumbers, run_numbers}
-use Rattle.litmus_test.specs.Parts.{LitmusParts}
+use Rattle.litmus.specs.Parts.{LitmusParts}
 use Rattle.litmus.specs.Ends.{GetsYes, IsJudgeCause, ThreadEnd, left, outcome_of}
 use Rattle.litmus.specs.declared.run_cause.RunCause.{RunCause}
 use Rattle.litmus.specs.declared.run_cause.RunCause.TheVariants as cause

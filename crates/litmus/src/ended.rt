@@ -6,8 +6,8 @@ ghost use Rattle.core_machine.specs.Machine.{World};
 ghost use Rattle.core_machine.specs.Works.{log_at};
 ghost use Rattle.litmus.specs.Ends.{outcome_of, word_in};
 
+use super::test::{Litmus, Shown};
 use audit::RunEnd;
-use litmus_test::{Litmus, Shown};
 use log_record::Record;
 use mem_op::CoreId;
 use std::alloc::{AllocError, Global};

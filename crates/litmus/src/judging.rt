@@ -9,15 +9,15 @@ ghost use Rattle.mem_op.specs.Limits.{operation_limit};
 ghost use Rattle.core_machine.specs.Works.{logs_below};
 ghost use Rattle.litmus.specs.Ends.{GetsYes, IsJudgeCause, outcome_of};
 ghost use Rattle.litmus.specs.declared.run_cause.RunCause.TheVariants as cause;
-ghost use Rattle.litmus_test.specs.inner.Ending.{word_lists};
+ghost use Rattle.litmus.specs.inner.Ending.{word_lists};
 ghost use Rattle.litmus.specs.inner.JudgedOutcome.{IsNo, IsVerdictOn};
 ghost use Rattle.verdict.specs.Counts.{IsInRange};
 ghost use Rattle.verdict.specs.Judgement.{IsYes};
 
 use super::ended::{Ended, outcome_of};
 use super::run_cause::RunCause;
+use super::test::Litmus;
 use core_program::ProgramSet;
-use litmus_test::Litmus;
 use log_file::{MemSink, SliceSource, write_log};
 use log_record::{Format, Record};
 use mem_op::CoreId;

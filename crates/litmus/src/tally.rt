@@ -4,7 +4,8 @@ ghost use Rattle.std.specs.Prelude.{◌≡◌, ◌++◌, ◌∷◌, [], ◌<◌,
 ghost use Rattle.litmus.specs.Collecting.{AreRowsOf};
 ghost use Rattle.litmus.specs.inner.Tallies.{IsTally, counted, count_in};
 
-use litmus_test::{Litmus, Row};
+use super::table::Row;
+use super::test::Litmus;
 use std::alloc::{AllocError, Global};
 use std::collections::BTreeMap;
 

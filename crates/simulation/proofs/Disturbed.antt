@@ -8,8 +8,8 @@ use Rattle.lease_rule.specs.ConfigParts.{ConfigParts}
 use Rattle.mem_op.specs.declared.id.Op.{Op}
 use Rattle.core_unit.specs.Core.{Core, next_of, op_addr}
 use Rattle.core_unit.specs.declared.outcome.Outcome.{Outcome}
-use Rattle.schedule.specs.declared.command.Command.{Command}
-use Rattle.schedule.specs.declared.command.Command.TheVariants as command
+use Rattle.simulation.specs.declared.command.Command.{Command}
+use Rattle.simulation.specs.declared.command.Command.TheVariants as command
 use Rattle.core_machine.specs.Machine.{World, CoreLeads, Leads, turn_hits, turn_drops, turn_gives, turn_asks, turn_ends, takes, takes_nothing, takes_busy, recall_gives, evict_drops, evict_gives, increments, by_core, serves, spills, no_effect}
 use Rattle.core_machine.specs.Parts.{CoreParts, world}
 use Rattle.core_machine.specs.Works.{has_next, left_at}

@@ -6,7 +6,7 @@ use Rattle.core_machine.specs.Machine.{World}
 use Rattle.core_machine.specs.Parts.{CoreParts, world}
 use Rattle.core_machine.specs.Works.{has_next}
 use Rattle.core_machine.proofs.Ended.{run_ended}
-use Rattle.schedule.specs.declared.command.Command.{Command}
+use Rattle.simulation.specs.declared.command.Command.{Command}
 use Rattle.simulation.specs.Drawing.{IsDrawnOut, cores_left, left_below}
 use Rattle.simulation.specs.Events.{ops_events}
 use Rattle.simulation.specs.Finishing.{FinishesFirst}

@@ -5,3 +5,5 @@ mod Left
 mod Progress
 pub mod SimulatedRuns
 pub mod Ended
+pub mod CommandTexts
+pub mod ScheduleTexts

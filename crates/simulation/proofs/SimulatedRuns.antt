@@ -2,8 +2,8 @@
 use Rattle.std.proofs.Common.{◌≡◌, ℕ, List, [], ◌∷◌, ◌++◌, sym, subst, inl, inr}
 use Rattle.std.specs.Prelude.{Option, None, Some}
 use Rattle.core_unit.specs.declared.outcome.Outcome.{Outcome}
-use Rattle.schedule.specs.declared.command.Command.{Command}
-use Rattle.schedule.specs.declared.command.Command.TheVariants as command
+use Rattle.simulation.specs.declared.command.Command.{Command}
+use Rattle.simulation.specs.declared.command.Command.TheVariants as command
 use Rattle.core_machine.specs.Parts.{CoreParts}
 use Rattle.tardis_core.specs.Rounds.{IsOpIfLeft, IsRun, IsRunTo, EventLeads, Ops, Rounds}
 use Rattle.tardis_core.specs.Rounds as rounds

@@ -2,8 +2,8 @@
 use Rattle.std.specs.Prelude.{◌≡◌, ⊤, ℕ, List, [], ◌∷◌, ◌++◌, Some, slice_get, take}
 use Rattle.manager_slice.specs.declared.fault.SliceFault.{SliceFault}
 use Rattle.core_unit.specs.declared.outcome.Outcome.{Outcome}
-use Rattle.schedule.specs.declared.command.Command.{Command}
-use Rattle.schedule.specs.declared.command.Command.TheVariants as command
+use Rattle.simulation.specs.declared.command.Command.{Command}
+use Rattle.simulation.specs.declared.command.Command.TheVariants as command
 use Rattle.core_machine.specs.Machine.{slice_number}
 use Rattle.core_machine.specs.Parts.{CoreParts}
 use Rattle.tardis_core.specs.Rounds.{IsCauseOf, IsFinished, IsFinishFault, IsOpFault, IsOpIfLeft, IsRefusedRound, IsRound, EventLeads}

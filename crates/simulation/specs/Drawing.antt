@@ -8,8 +8,8 @@ use Rattle.rand_pcg.specs.Pcg.{pcg32_of_seed}
 use Rattle.line_stamps.specs.declared.message.RecallKind.{RecallKind}
 use Rattle.line_stamps.specs.declared.message.RecallKind.TheVariants.{WriteBack, Flush}
 use Rattle.core_unit.specs.Core.{next_of, op_addr}
-use Rattle.schedule.specs.declared.command.Command.{Command}
-use Rattle.schedule.specs.declared.command.Command.TheVariants as command
+use Rattle.simulation.specs.declared.command.Command.{Command}
+use Rattle.simulation.specs.declared.command.Command.TheVariants as command
 use Rattle.core_machine.specs.Machine.{World}
 use Rattle.core_machine.specs.Parts.{CoreParts, world}
 use Rattle.tardis_core.specs.Picks.{IsPick, one_word_on, word}

@@ -1,7 +1,7 @@
 -- The events that rounds, commands and draws make, one after the other.
 use Rattle.std.specs.Prelude.{ℕ, List, [], ◌∷◌, ◌++◌, Option, None, Some}
-use Rattle.schedule.specs.declared.command.Command.{Command}
-use Rattle.schedule.specs.declared.command.Command.TheVariants as command
+use Rattle.simulation.specs.declared.command.Command.{Command}
+use Rattle.simulation.specs.declared.command.Command.TheVariants as command
 use Rattle.core_machine.specs.Parts.{CoreParts}
 use Rattle.tardis_core.specs.Rounds.{IsOpIfLeft, IsRun, Ops, Rounds}
 use Rattle.tardis_core.specs.Rounds as rounds

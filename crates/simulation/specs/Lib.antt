@@ -1,6 +1,11 @@
+pub mod CommandTexts
 pub mod Commands
 pub mod Drawing
 pub mod Events
 pub mod Faults
 pub mod Finishing
+pub mod ScheduleFaultTexts
+pub mod ScheduleLaws
+pub mod Schedules
 pub mod Simulating
+pub mod inner

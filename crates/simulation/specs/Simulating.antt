@@ -1,6 +1,6 @@
 -- A whole simulation.
 use Rattle.std.specs.Prelude.{◌≡◌, ◌<◌, ◌⊎◌, ℕ, false, List, Option, None, Some}
-use Rattle.schedule.specs.declared.command.Command.{Command}
+use Rattle.simulation.specs.declared.command.Command.{Command}
 use Rattle.core_machine.specs.Machine.{World}
 use Rattle.core_machine.specs.Parts.{CoreParts}
 use Rattle.core_machine.specs.Works.{has_next}

@@ -4,9 +4,9 @@ ghost use Rattle.std.specs.Prelude.{◌≡◌, Some, MatchResult};
 ghost use Rattle.simulation.specs.Commands.{Follows, EventLeadsAnyhow, IsRefusedAt, IsRefusedCommand, IsRefusedSpill, IsUnfollowed, CommandLeads};
 ghost use Rattle.core_machine.specs.Machine.{core_event};
 
+use super::command::Command;
 use super::fault::SimulationFault;
 use mem_op::{Addr, CoreId};
-use schedule::Command;
 use tardis_core::rounds::{RoundCause, RoundFault, finish, op, round};
 use tardis_core::{Core, CoreFault, Event};
 

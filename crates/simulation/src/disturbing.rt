@@ -7,6 +7,7 @@ ghost use Rattle.core_unit.specs.Core.{op_addr};
 ghost use Rattle.simulation.specs.Drawing.{Disturbs, IsDrawnCommand, IsUndisturbed, after_command, commands_at, cores_left, generator_of, next_address, recall_at};
 ghost use Rattle.tardis_core.specs.Picks.{one_word_on, word};
 
+use super::command::Command;
 use super::commands::obey;
 use super::fault::SimulationFault;
 use line_stamps::{Recall, RecallKind, Stamp};
@@ -14,7 +15,6 @@ use mem_op::{Addr, CoreId, Op};
 use rand_core::SeedableRng;
 use rand_core::utils::NextWord;
 use rand_pcg::Pcg32;
-use schedule::Command;
 use tardis_core::Core;
 use tardis_core::rounds::pick;
 

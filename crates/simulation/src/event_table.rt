@@ -3,6 +3,7 @@
 ghost use Rattle.core_machine.specs.Parts.{CoreParts};
 ghost use Rattle.simulation.specs.Commands.{CommandLeads, EventLeadsAnyhow, IsAtOwner};
 
+use super::command::Command;
 use super::event_text::OutcomeText;
 use core_machine::{CoreFault, Event};
 use core_program::ProgramSet;
@@ -14,7 +15,6 @@ use log_record::Record;
 use manager_slice::{ManagedLine, ManagerSlice};
 use mem_op::{Addr, CoreId};
 use private_cache::Held;
-use schedule::Command;
 use std::alloc::{AllocError, Global};
 use tardis_core::Core;
 

@@ -1,10 +1,10 @@
 //! How the table of a run's events spells what comes of an event.
 
+use super::command::Command;
 use core_unit::Outcome;
 use line_stamps::{Line, Message, Recall, Reply, Stamp};
 use log_record::Record;
 use mem_op::Source;
-use schedule::Command;
 use std::fmt;
 use std::fmt::Display;
 

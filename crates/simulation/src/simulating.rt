@@ -6,11 +6,11 @@ ghost use Rattle.core_machine.specs.Parts.{world};
 ghost use Rattle.simulation.specs.Simulating.{IsEnded, IsSimulated, IsSimulationFault, IsUnended, NoneIsLeft};
 ghost use Rattle.tardis_core.specs.Rounds.{IsRunTo};
 
+use super::command::Command;
 use super::commands::follow;
 use super::drawing::draw_out;
 use super::fault::SimulationFault;
 use super::finishing::finish_all;
-use schedule::Command;
 use std::alloc::Global;
 use tardis_core::Core;
 

@@ -2,7 +2,7 @@
 use Rattle.std.specs.Prelude.{◌≡◌, ℕ, ◌+◌, ◌≤◌, if◌then◌else◌, List, [], ◌∷◌, length, map}
 use Rattle.std.specs.Global.{Vec}
 use Rattle.std.specs.List.{AllByRecursion}
-use Rattle.litmus_test.specs.Outcomes.{is_outcome}
+use Rattle.litmus.specs.Outcomes.{is_outcome}
 use Rattle.litmus.specs.Collecting.{count_of}
 
 -- outcomes with their counts, in the order of the map

@@ -6,7 +6,7 @@ use Rattle.lease_rule.specs.Ranges.{first_bad}
 use Rattle.litmus.specs.Collecting.{IsBadRunCount, IsRunCount}
 use Rattle.litmus.specs.declared.run_fault.CollectFault.{CollectFault}
 use Rattle.litmus.specs.declared.run_fault.CollectFault.TheVariants.{BadRuns, Run, OutOfMemory}
-use Rattle.litmus_test.specs.Parts.{LitmusParts}
+use Rattle.litmus.specs.Parts.{LitmusParts}
 use Rattle.host_files.specs.Files.{IsUnread}
 use Rattle.commands.specs.Programmed.{config_of}
 use Rattle.commands.specs.Tabling.{IsFaultBy, IsInOrder, IsTestIn, IsUntabled}

@@ -1,9 +1,9 @@
 -- Why there is no test in a text, as a refusal of the command.
 use Rattle.std.proofs.Common.{◌≡◌, ℕ, List, Option, Err, rules}
 use Rattle.log_file.specs.Devices.{Tells}
-use Rattle.litmus_test.specs.Answers.{IsFault}
-use Rattle.litmus_test.specs.declared.fault.LitmusFault.{LitmusFault}
-use Rattle.litmus_test.specs.declared.fault.LitmusFault.TheVariants.{BadLitmusLine, BadLine, TooLong, SkipPastEnd, OutOfMemory}
+use Rattle.litmus.specs.Tests.{IsFault}
+use Rattle.litmus.specs.declared.litmus_fault.LitmusFault.{LitmusFault}
+use Rattle.litmus.specs.declared.litmus_fault.LitmusFault.TheVariants.{BadLitmusLine, BadLine, TooLong, SkipPastEnd, OutOfMemory}
 use Rattle.host_files.specs.Files.{IsUnread}
 use Rattle.commands.specs.Tabling.{IsUntested}
 use Rattle.commands.specs.Refusals.{from_test}

@@ -2,9 +2,9 @@
 use Rattle.std.proofs.Common.{◌≡◌, ℕ, List, Option, Some, Err, rules}
 use Rattle.std.specs.Borrow.{Bor}
 use Rattle.log_file.specs.Devices.{Tells}
-use Rattle.schedule.specs.Answers.{IsFault}
-use Rattle.schedule.specs.declared.fault.ScheduleFault.{ScheduleFault}
-use Rattle.schedule.specs.declared.fault.ScheduleFault.TheVariants.{BadScheduleLine, OutOfMemory}
+use Rattle.simulation.specs.Schedules.{IsFault}
+use Rattle.simulation.specs.declared.schedule_fault.ScheduleFault.{ScheduleFault}
+use Rattle.simulation.specs.declared.schedule_fault.ScheduleFault.TheVariants.{BadScheduleLine, OutOfMemory}
 use Rattle.host_files.specs.Files.{IsUnread}
 use Rattle.commands.specs.Simulating.{IsUnscheduled}
 use Rattle.commands.specs.Refusals.{from_schedule}

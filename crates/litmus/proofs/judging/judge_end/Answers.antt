@@ -2,7 +2,7 @@ use Rattle.std.proofs.Common.{rules}
 use Rattle.std.specs.Prelude.{Ok}
 use Rattle.log_file.specs.Sets.{SpellSet}
 use Rattle.litmus.specs.Ends.{logs_of}
-use Rattle.litmus_test.specs.inner.Ending.{word_lists}
+use Rattle.litmus.specs.inner.Ending.{word_lists}
 use Rattle.litmus.specs.inner.JudgedOutcome.{IsVerdictOn}
 use Rattle.litmus.proofs.JudgedOutcome.{told_of}
 use Rattle.litmus.proofs.judging.judge_end.Goals as goal

@@ -9,7 +9,7 @@ use Rattle.verdict.specs.Judgement.{IsRunAnswerTo}
 use Rattle.verdict.specs.declared.judge_fault.Count.{Count}
 use Rattle.verdict.specs.declared.judge_fault.Count.TheVariants.{Files, Workers, Programs}
 use Rattle.verdict.specs.declared.judge_fault.JudgeFault.TheVariants.{BadConfig}
-use Rattle.litmus_test.specs.inner.Ending.{word_lists}
+use Rattle.litmus.specs.inner.Ending.{word_lists}
 use Rattle.litmus.proofs.JudgedOutcome.{told, verdict_on}
 use Rattle.litmus.proofs.judging.judge_texts.Goals as goal
 

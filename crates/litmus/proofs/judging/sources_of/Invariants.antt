@@ -1,7 +1,7 @@
 -- The sources so far have the texts so far.
 use Rattle.std.proofs.Common.{◌≡◌, map, take}
 use Rattle.log_file.specs.InMemory.{rest_of}
-use Rattle.litmus_test.specs.inner.Ending.{word_lists}
+use Rattle.litmus.specs.inner.Ending.{word_lists}
 use Rattle.litmus.proofs.judging.sources_of.Given as goal
 
 abbrev pub invariant-loop-text : goal.invariant-loop-text

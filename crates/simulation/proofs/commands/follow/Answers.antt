@@ -3,7 +3,7 @@ use Rattle.std.proofs.lemmas.List.{take_more}
 use Rattle.std.proofs.lemmas.Option.{slice_get-get_or}
 use Rattle.std.specs.Prelude.{Some}
 use Rattle.simulation.specs.Commands.{Follows, no_command, one_more}
-use Rattle.schedule.specs.declared.command.Command.{Command}
+use Rattle.simulation.specs.declared.command.Command.{Command}
 use Rattle.simulation.proofs.commands.follow.Goals as goal
 
 pub loop-command-init : goal.loop-command-init

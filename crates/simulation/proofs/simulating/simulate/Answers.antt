@@ -3,7 +3,7 @@ use Rattle.std.proofs.Common.{rules, ℕ, List, inl}
 use Rattle.std.specs.Prelude.{Option, Result, Ok, Err, OnOk, MatchResult}
 use Rattle.core_machine.specs.Parts.{CoreParts, world}
 use Rattle.tardis_core.specs.Rounds.{IsRunTo}
-use Rattle.schedule.specs.declared.command.Command.{Command}
+use Rattle.simulation.specs.declared.command.Command.{Command}
 use Rattle.simulation.specs.Events.{IsSimulatedByRun}
 use Rattle.simulation.specs.Simulating.{IsSimulated, IsSimulationFault, NoneIsLeft}
 use Rattle.simulation.specs.declared.fault.SimulationFault.{SimulationFault}

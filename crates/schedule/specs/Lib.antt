@@ -1,5 +1,0 @@
-pub mod Answers
-pub mod FaultTexts
-pub mod Grammar
-pub mod Laws
-pub mod inner
