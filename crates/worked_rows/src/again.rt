@@ -2,6 +2,7 @@
 
 ghost use Rattle.std.specs.Prelude.{◌<◌};
 
+use super::beginnings::{copied, told_of_beginning, with_beginning};
 use super::call::{Done, Outputs, SOUND, call, check_alone};
 use super::compare::{Expected, compare};
 use super::fault::RowsFault;
@@ -352,36 +353,6 @@ fn failing_at(write: usize) -> [Step; WRITES]
     let mut steps = [Step::Move(3); WRITES];
     steps[write] = Step::Fail;
     steps
-}
-
-/// What a call tells of a file that has only this beginning of a log.
-fn told_of_beginning(alloc: Global, file: usize, beginning: &[u8]) -> Result<String, RowsFault> {
-    let feeds = beginning.iter().filter(|byte| **byte == b'\n').count();
-    let line = feeds.saturating_add(1);
-    Ok(format!(in alloc; "refused: file {file} line {line}: 26 Truncated\n")?)
-}
-
-/// A file of the same name and bytes.
-fn copied(alloc: Global, file: &File) -> Result<File, RowsFault> {
-    Ok(File::new(alloc, file.name.as_str(), file.bytes.as_slice())?)
-}
-
-/// The files, one of them cut off after this many bytes.
-fn with_beginning(
-    alloc: Global,
-    files: &[File],
-    name: &str,
-    length: usize,
-) -> Result<Vec<File>, RowsFault> {
-    let mut all = Vec::new(alloc);
-    for file in files {
-        let mut copy = copied(alloc, file)?;
-        if copy.name.as_str() == name {
-            copy.bytes.truncate(length);
-        }
-        all.push(copy)?;
-    }
-    Ok(all)
 }
 
 /// Whether a refusal names the place of a file among the logs, in a call that has no options and reads logs alone.

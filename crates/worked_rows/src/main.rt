@@ -5,6 +5,7 @@
 #![tactic(auto)]
 
 mod again;
+mod beginnings;
 mod call;
 mod compare;
 mod fault;
