@@ -11,17 +11,6 @@ const TURN: u32 = 4;
 /// How many pairs of cores one step of the budget covers when it looks at an open read.
 const PAIRS: u64 = 20;
 
-/// Where those candidates of a read lie that aren't excluded.
-#[derive(Clone, Copy)]
-enum Left {
-    /// There is none.
-    Nothing,
-    /// In the range from one to another of the same core; the first may be START.
-    Range(Place, Place),
-    /// In several cores.
-    Several,
-}
-
 impl Knowledge<'_> {
     /// Lets all operations come in, the cores in turns, and concludes what follows.
     pub(crate) fn saturate<W: SearchWatch>(&mut self, watch: &W) -> Tried<()> {
@@ -142,46 +131,43 @@ impl Knowledge<'_> {
         Ok(())
     }
 
-    /// Gives an open read its source if all candidates but one are excluded, or else the range of the others. Says whether that brought a new fact.
+    /// Adds in which range an open read's source lies, if it lies in one. If that was known, applies the rule for the stores after it again. Says
+    /// whether that brought a new fact.
     fn settle(&mut self, read: Place) -> Tried<bool> {
         if self.facts.has_source(read) {
             return Ok(false);
         }
         let facts = self.facts.all.len();
-        match self.left(read)? {
-            Left::Nothing => return Err(Stop::Closed(Conflict::NoSource(read))),
-            Left::Range(first, last) => self.narrow(read, first, last)?,
-            Left::Several => {}
+        if let Some((first, last)) = self.left(read)? {
+            match self.facts.source(read) {
+                Some((number, from, to)) if (from, to) == (first, last) => {
+                    self.order_stores_after(read, number, last)?;
+                }
+                _ => self.set_source(read, first, last)?,
+            }
         }
         self.conclude()?;
         Ok(self.facts.all.len() > facts)
     }
 
-    /// Adds that a read's source lies in a range. If that was known, applies the rule for the stores after it again.
-    fn narrow(&mut self, read: Place, first: Place, last: Place) -> Tried<()> {
-        match self.facts.source(read) {
-            Some((number, from, to)) if (from, to) == (first, last) => {
-                self.order_stores_after(read, number, last)
-            }
-            _ => self.set_source(read, first, last),
-        }
-    }
-
-    /// Where those candidates of a read lie that aren't excluded.
-    fn left(&self, read: Place) -> Tried<Left> {
+    /// The range of one core, from one store or START to another, that has all candidates of a read that aren't excluded. None if several cores have
+    /// some. The case is closed if there is none.
+    fn left(&self, read: Place) -> Tried<Option<(Place, Place)>> {
         let hiding = self.last_stores(read)?;
-        let mut left = Left::Nothing;
+        let mut left = None;
         for core in self.operations.cores() {
             left = match (left, self.left_of(read, core, &hiding)) {
                 (left, []) => left,
-                (Left::Nothing, [START]) => Left::Range(START, START),
-                (Left::Nothing, [first, .., last]) => Left::Range(*first, *last),
-                (Left::Nothing, [only]) => Left::Range(*only, *only),
-                (Left::Range(START, START), [.., last]) => Left::Range(START, *last),
-                _ => return Ok(Left::Several),
+                (None, [only]) => Some((*only, *only)),
+                (None, [first, .., last]) => Some((*first, *last)),
+                (Some((START, START)), [.., last]) => Some((START, *last)),
+                _ => return Ok(None),
             };
         }
-        Ok(left)
+        match left {
+            None => Err(Stop::Closed(Conflict::NoSource(read))),
+            left => Ok(left),
+        }
     }
 
     /// A core's candidates of a read that aren't excluded, if `hiding` are the last stores before the read.
