@@ -32,6 +32,34 @@ enum Failure {
     NoCycle,
 }
 
+/// The words about a failure of a path, and none about others.
+#[derive(Clone, Copy)]
+struct OfPath(Failure);
+
+impl Display for OfPath {
+    fn fmt<W: fmt::Write>(&self, f: &mut fmt::Formatter<W>) -> fmt::Result {
+        match self.0 {
+            Failure::NoFact(number, 0) => {
+                write!(f, "There is no fact {number} yet: none is in force.")
+            }
+            Failure::NoFact(number, count) => {
+                let last = count.saturating_sub(1);
+                write!(f, "There is no fact {number} yet: the last one is {last}.")
+            }
+            Failure::Gap(at, to, fact) => {
+                let (at, to) = (Named(at), Named(to));
+                write!(f, "Program order doesn't lead from {at} to {to}, where ")?;
+                match fact {
+                    Some(number) => write!(f, "fact {number} begins."),
+                    None => f.write_str("the path has to end."),
+                }
+            }
+            Failure::NoCycle => f.write_str("A cycle goes by one fact or more."),
+            _ => Ok(()),
+        }
+    }
+}
+
 /// The words about a failure, beside a trace.
 #[derive(Clone, Copy)]
 struct Told<'a>(&'a Trace, Failure);
@@ -51,13 +79,6 @@ impl<'a> Display for Told<'a> {
                 "{}. {write} stored that there, and lies in none of the ranges.",
                 Deed(self.0, id)
             ),
-            Failure::NoFact(number, 0) => {
-                write!(f, "There is no fact {number} yet: none is in force.")
-            }
-            Failure::NoFact(number, count) => {
-                let last = count.saturating_sub(1);
-                write!(f, "There is no fact {number} yet: the last one is {last}.")
-            }
             Failure::NoSource(number, known) => write!(
                 f,
                 "Fact {number} says that {} comes before {}; the step names one that a read gave.",
@@ -77,15 +98,7 @@ impl<'a> Display for Told<'a> {
                 f,
                 "{at} is the last that may have given {read} its word; the step names another write."
             ),
-            Failure::Gap(at, to, fact) => {
-                let (at, to) = (Named(at), Named(to));
-                write!(f, "Program order doesn't lead from {at} to {to}, where ")?;
-                match fact {
-                    Some(number) => write!(f, "fact {number} begins."),
-                    None => f.write_str("the path has to end."),
-                }
-            }
-            Failure::NoCycle => f.write_str("A cycle goes by one fact or more."),
+            path => OfPath(path).fmt(f),
         }
     }
 }
