@@ -6,7 +6,6 @@ ghost use Rattle.statistics.specs.Columns.{column_at, column_name, counts, is_of
 use super::sight::Sight;
 use core_unit::CoreEntry;
 use line_stamps::{Message, Reply};
-use log_record::Act;
 use manager_slice::HistoryEntry;
 
 /// A column of the table.
@@ -116,20 +115,8 @@ impl Column {
         match self {
             Column::Operations => matches!(sight, Sight::Operation { .. }),
             Column::Loads => sight.is_load(),
-            Column::Stores => matches!(
-                sight,
-                Sight::Operation {
-                    act: Act::Store,
-                    ..
-                }
-            ),
-            Column::Swaps => matches!(
-                sight,
-                Sight::Operation {
-                    act: Act::Swap(..),
-                    ..
-                }
-            ),
+            Column::Stores => sight.is_store(),
+            Column::Swaps => sight.is_swap(),
             Column::Hits => sight.is_hit(),
             Column::ShReq => matches!(sight, Sight::Core(CoreEntry::Got(Message::ShReq { .. }, _))),
             Column::ExReq => matches!(sight, Sight::Core(CoreEntry::Got(Message::ExReq { .. }, _))),

@@ -39,6 +39,32 @@ impl Sight {
         )
     }
 
+    /// Whether it is a store.
+    pub(crate) fn is_store(&self) -> bool
+        ensures { result ≡ counts Column.Stores self.now }
+    {
+        matches!(
+            self,
+            Sight::Operation {
+                act: Act::Store,
+                ..
+            }
+        )
+    }
+
+    /// Whether it is a swap.
+    pub(crate) fn is_swap(&self) -> bool
+        ensures { result ≡ counts Column.Swaps self.now }
+    {
+        matches!(
+            self,
+            Sight::Operation {
+                act: Act::Swap(..),
+                ..
+            }
+        )
+    }
+
     /// Whether it is an operation for which no line came since the operation before.
     pub(crate) fn is_hit(&self) -> bool
         ensures { result ≡ counts Column.Hits self.now }
