@@ -15,8 +15,8 @@ use Rattle.verdict.specs.SetFaults.{from_set}
 use Rattle.verdict.specs.declared.judge_fault.Count.TheVariants.{Files as FileCount, Workers, Programs as ProgramCount}
 use Rattle.verdict.specs.declared.judge_fault.JudgeFault.{JudgeFault}
 use Rattle.verdict.specs.declared.judge_fault.JudgeFault.TheVariants.{BadConfig, Read, OutOfMemory}
-use Rattle.host_files.specs.Files.{Files, IsFirstRefused, IsUnread, refusing}
-use Rattle.commands.specs.LogFiles.{AreSourcesOf, AreTextsOf, IsOpenFault, IsUnreadAt}
+use Rattle.host_files.specs.Files.{Files, IsFirstRefused, IsOnlyRead, IsUnread, refusing}
+use Rattle.commands.specs.LogFiles.{AreSourcesOf, AreTextsOf, IsLeft, IsOpenFault, IsUnreadAt}
 use Rattle.commands.specs.Refusals.{from_judge}
 use Rattle.commands.specs.inner.ReadTraces.{AreLogless}
 use Rattle.commands.proofs.Files.{first_refused}
@@ -96,6 +96,19 @@ unopened_files remaining failed old new names (BadConfig FileCount) why = why.1
 unopened_files remaining failed old new names (Read file) why = (why.0, unopened_at remaining failed old new names file why.1)
 unopened_files remaining failed old new names OutOfMemory why = tt
 unopened_files remaining failed old new names other why = absurd why
+
+-- and the folder is left as that fault says
+pub unopened_left : (old new : Files) (names : List (Bor (List ℕ))) (fault : JudgeFault) → IsOpenFault old new names fault → IsOnlyRead old new → IsLeft old new fault
+unopened_left old new names (BadConfig FileCount) why read = why.0
+unopened_left old new names (Read file) why read = read
+unopened_left old new names OutOfMemory why read = read
+unopened_left old new names other why read = absurd why
+
+-- a folder that is as it was is left so, whatever the fault
+pub same_left : (old new : Files) (fault : JudgeFault) → new ≡ old → IsLeft old new fault
+same_left old new (Read file) same = inl same
+same_left old new OutOfMemory same = inl same
+same_left old new other same = same
 
 -- the set has a fault
 pub faulty : (told : List ℕ → Option (List ℕ)) (unread : List ℕ → Type 0) (names : List (Bor (List ℕ))) (texts : List (List ℕ)) (file : ℕ) (fault : LogFault) → IsInRange (length names)

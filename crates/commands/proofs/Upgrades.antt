@@ -9,21 +9,23 @@ use Rattle.log_record.specs.Entries.{record_lists}
 use Rattle.log_record.specs.declared.format.Format.TheVariants.{Two}
 use Rattle.log_record.specs.declared.record.Record.{Record}
 use Rattle.verdict.specs.Counts.{IsInRange}
-use Rattle.host_files.specs.Files.{Files, IsOnlyRead}
-use Rattle.commands.specs.LogFiles.{Spelled}
+use Rattle.verdict.specs.declared.judge_fault.JudgeFault.{JudgeFault}
+use Rattle.verdict.specs.declared.judge_fault.JudgeFault.TheVariants.{OutOfMemory as NoLogMemory}
+use Rattle.host_files.specs.Files.{Files}
+use Rattle.commands.specs.LogFiles.{IsLeft, Spelled}
 use Rattle.commands.specs.Logs.{ArePut, ArePutUpTo, IsUnwritten, performed_below}
+use Rattle.commands.specs.Refusals.{from_judge}
 use Rattle.commands.specs.Upgrading.{IsUpgraded, log_in}
 use Rattle.commands.specs.inner.ReadLogs.{read_log_of}
 use Rattle.commands.specs.inner.ReadTraces.{AreLogless}
 use Rattle.commands.specs.declared.refusal.Refusal.{Refusal}
-use Rattle.commands.specs.declared.refusal.Refusal.TheVariants.{Judge, LogUnwritten, OutOfMemory as NoMemory}
+use Rattle.commands.specs.declared.refusal.Refusal.TheVariants.{LogUnwritten, OutOfMemory as NoMemory}
 
 -- the files weren't read
-pub not_read : (old new : Files) (unread : List ℕ → Type 0) (asked : Upgrade) (refusal : Refusal) → AreLogless old.told unread asked.files.items refusal → IsOnlyRead old new
-    → IsUpgraded old new unread asked (Err refusal)
-not_read old new unread asked (Judge fault) why read = (why, read)
-not_read old new unread asked NoMemory why read = tt
-not_read old new unread asked other why read = absurd why
+pub not_read : (old new : Files) (unread : List ℕ → Type 0) (asked : Upgrade) (fault : JudgeFault) → AreLogless old.told unread asked.files.items (from_judge fault) → IsLeft old new fault
+    → IsUpgraded old new unread asked (Err (from_judge fault))
+not_read old new unread asked NoLogMemory why left = tt
+not_read old new unread asked other why left = (why, left)
 
 -- ---- the logs that were read
 

@@ -5,8 +5,8 @@ use Rattle.command_line.specs.declared.request.Upgrade.{Upgrade}
 use Rattle.log_record.specs.declared.format.Format.TheVariants.{Two}
 use Rattle.log_record.specs.declared.record.Record.{Record}
 use Rattle.verdict.specs.Counts.{IsInRange}
-use Rattle.host_files.specs.Files.{Files, IsOnlyRead}
-use Rattle.commands.specs.LogFiles.{Spelled}
+use Rattle.host_files.specs.Files.{Files}
+use Rattle.commands.specs.LogFiles.{IsLeft, Spelled}
 use Rattle.commands.specs.Logs.{ArePut, ArePutUpTo, TellsFirst, performed_below}
 use Rattle.commands.specs.Traces.{AreNoLogs}
 use Rattle.commands.specs.declared.refusal.Refusal.{Refusal}
@@ -28,7 +28,7 @@ IsUpgraded old new unread asked (Ok count) =
     IsInRange (vec_len asked.files)
     × Spelled old.told asked.files.items (λ logs. (count ≡ performed_below (log_in logs) (vec_len asked.files))
     × ArePut Two old new asked.out.now (vec_len asked.files) (log_in logs))
-IsUpgraded old new unread asked (Err (Judge fault)) = AreNoLogs old.told unread asked.files.items fault × IsOnlyRead old new
+IsUpgraded old new unread asked (Err (Judge fault)) = AreNoLogs old.told unread asked.files.items fault × IsLeft old new fault
 IsUpgraded old new unread asked (Err (LogUnwritten file)) =
     IsInRange (vec_len asked.files)
     × Spelled old.told asked.files.items (λ logs. ArePutUpTo Two old new asked.out.now (vec_len asked.files) (log_in logs) file)

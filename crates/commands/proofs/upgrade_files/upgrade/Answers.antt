@@ -21,10 +21,10 @@ returns-in_err-read-clause-exact g c =
     let old = files c.args.folder.now in
     let new = files c.read_log_files.new.folder in
     let unread = IsUnread g.F.Source.ByteSource.remaining g.F.Source.ByteSource.failed old new in
-    let refusal = from_judge c.in_err-read.field-0.0 in
-    let is : c.from_residual.result ≡ Err refusal = search rules in
-    rw is (not_read old new unread c.args.asked.now refusal
-    (subst (λ (names : List (Bor (List ℕ))). AreLogless old.told unread names refusal) c.as_slice.ensures.value c.in_err-read.ensures.err) c.in_err-read.ensures.read)
+    let fault = c.in_err-read.field-0.0 in
+    let is : c.from_residual.result ≡ Err (from_judge fault) = search rules in
+    rw is (not_read old new unread c.args.asked.now fault
+    (subst (λ (names : List (Bor (List ℕ))). AreLogless old.told unread names (from_judge fault)) c.as_slice.ensures.value c.in_err-read.ensures.err) c.in_err-read.ensures.left)
 
 pub returns-in_err-read-clause-files : goal.returns-in_err-read-clause-files
 returns-in_err-read-clause-files g c name none =
