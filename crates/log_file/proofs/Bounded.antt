@@ -5,8 +5,8 @@ use Rattle.log_record.specs.declared.format.Format.{Format}
 use Rattle.log_record.specs.declared.record.Record.{Record}
 use Rattle.log_record.specs.Line.{format_number, record_text, header_text, end_text, FitsIn, limit_of}
 use Rattle.log_record.proofs.Lines.{record_short, header_short, end_short}
-use Rattle.log_file.specs.declared.progress.Stage.{Stage}
-use Rattle.log_file.specs.declared.progress.Stage.TheVariants as stage
+use Rattle.log_file.specs.declared.stage.Stage.{Stage}
+use Rattle.log_file.specs.declared.stage.Stage.TheVariants as stage
 use Rattle.log_file.specs.Log.{with_lf, begun, text_of, IsLog}
 use Rattle.log_file.specs.Answering.{Answering, HasAnswered}
 use Rattle.log_file.specs.Standing.{IsSound, limit_at, whole_text}

@@ -8,7 +8,6 @@ pub mod LineFeeds
 pub mod LineOf
 pub mod Lines
 pub mod Once
-pub mod NextRecord
 pub mod OneLine
 pub mod OnlyCut
 pub mod Sets

@@ -3,8 +3,8 @@ use Rattle.std.proofs.Common.{◌≡◌, ◌≤◌, ℕ, List, ◌++◌, length,
 use Rattle.log_record.specs.declared.record.Record.{Record}
 use Rattle.log_file.specs.declared.fault.FormatFault.{FormatFault}
 use Rattle.log_file.specs.declared.fault.FormatFault.TheVariants.{Truncated}
-use Rattle.log_file.specs.declared.progress.Stage.{Stage}
-use Rattle.log_file.specs.declared.progress.Stage.TheVariants as stage
+use Rattle.log_file.specs.declared.stage.Stage.{Stage}
+use Rattle.log_file.specs.declared.stage.Stage.TheVariants as stage
 use Rattle.log_file.specs.Log.{spelling, lines_of, FaultAt}
 use Rattle.log_file.specs.OneLine.{IsOneLine}
 use Rattle.log_file.specs.Answering.{Answering, HasAnswered}

@@ -1,29 +1,178 @@
--- Bytes that are taken one part after another.
-use Rattle.std.proofs.Common.{◌≡◌, ℕ, List, ◌++◌, ap, subst, ◌∙◌, append_assoc}
+-- The parts of a piece that a reader has taken.
+use Rattle.std.proofs.Common.{◌≡◌, ◌∙◌, ◌-◌, ◌<◌, ◌≤◌, ℕ, List, [], ◌∷◌, ◌++◌, Option, None, Some, length, take, drop, ap, arith, refl, subst, sym, append_assoc, append-nil, length-append}
+use Rattle.std.specs.Prelude.{MatchResult, Result, Ok, Err, is_some, true, false}
+use Rattle.std.proofs.lemmas.List.{take_at, take-append-drop}
+use Rattle.mem_op.specs.Limits.{operation_limit}
 use Rattle.log_record.specs.declared.record.Record.{Record}
 use Rattle.log_file.specs.declared.fault.LogFault.{LogFault}
-use Rattle.log_file.specs.declared.line_reader.LineReader.{LineReader}
+use Rattle.log_file.specs.declared.stage.Stage.{Stage}
+use Rattle.log_file.specs.declared.stage.Stage.TheVariants as stage
+use Rattle.log_file.specs.Answering.{Answering, AnswersOne, HasAnswered, fed_text}
 use Rattle.log_file.specs.Feeding.{IsSettled}
-use Rattle.log_file.specs.Standing.{IsInRange, IsSettledWith, SameLog, Stands, Takes, read_text}
+use Rattle.log_file.specs.Log.{with_lf}
+use Rattle.log_file.specs.OneLine.{IsOneLine}
+use Rattle.log_file.specs.Standing.{IsInRecords, IsSound}
+use Rattle.log_file.specs.inner.NextLine.{IsLineRefused, IsPartRefused, IsSameLog, IsTooFar, TakesLine, with_read}
+use Rattle.log_file.specs.inner.TakesPiece.{TakesPiece}
+use Rattle.log_file.proofs.Fed.{same_log}
+use Rattle.log_file.proofs.Settled.{settled_front}
+use Rattle.log_file.proofs.Standing.{last_part_refused, last_read, part_refused, takes_line, takes_part}
 
-pub takes_more : (old mid new : LineReader) (rs ms ns : List Record) (a b : List ℕ) → Takes old rs a mid ms → Takes mid ms b new ns
-    → Takes old rs (a ++ b) new ns
-takes_more old mid new rs ms ns a b first second = record {
-  stands = second.stands;
-  text = second.text ∙ ap (λ (xs : List ℕ). xs ++ b) first.text ∙ append_assoc (read_text old rs) a b;
+-- the bytes that were taken, if this is the rest
+front_is : (piece front rest : List ℕ) → piece ≡ front ++ rest → take (length piece - length rest) piece ≡ front
+front_is piece front rest is =
+    let many : length front ≡ length piece - length rest = omega (arith, ap length is, length-append front rest) in
+    ap (take (length piece - length rest)) is ∙ take_at front rest _ many
+
+-- ---- up to a record's line
+
+-- lines of no record were taken, and this is the rest
+pub record TakesFront (old now : Answering) (piece rest : List ℕ) : Type 0 where
+  pub same : IsSameLog old now
+  pub faultless : now.fault ≡ None
+  pub front : List ℕ
+  pub is : piece ≡ front ++ rest
+  pub answered : (bytes : List ℕ) (records : List Record) → HasAnswered old bytes records → HasAnswered now (bytes ++ front) records
+
+pub nothing_taken : (s : Answering) (piece : List ℕ) → s.fault ≡ None → TakesFront s s piece piece
+nothing_taken s piece none = record {
+  same = record { core = refl; cores = refl };
+  faultless = none;
+  front = [];
+  is = refl;
+  answered = λ bytes records had. rw append-nil had;
 }
 
-pub settled_more : (old mid : LineReader) (rs ms : List Record) (a b : List ℕ) (f : LogFault) → Takes old rs a mid ms
-    → SameLog old.progress mid.progress → IsSettledWith mid ms b f → IsSettledWith old rs (a ++ b) f
-settled_more old mid rs ms a b f first same settled =
-    let text = ap (λ (xs : List ℕ). xs ++ b) first.text ∙ append_assoc (read_text old rs) a b in
-    subst (λ (xs : List ℕ). IsSettled old.progress.core old.progress.cores xs f) text
-    (subst (λ (k : ℕ). IsSettled old.progress.core k (read_text mid ms ++ b) f) same.cores
-    (subst (λ (k : ℕ). IsSettled k mid.progress.cores (read_text mid ms ++ b) f) same.core settled))
+module _ {old mid : Answering} {piece rest : List ℕ} (so_far : TakesFront old mid piece rest) where
+  module _ (part after : List ℕ) (one : IsOneLine part) (feed : rest ≡ with_lf part ++ after) where
+    -- the bytes up to the end of one more line
+    line_is : piece ≡ (so_far.front ++ with_lf part) ++ after
+    line_is = so_far.is ∙ ap (λ (xs : List ℕ). so_far.front ++ xs) feed ∙ sym (append_assoc so_far.front (with_lf part) after)
 
--- all of a piece was taken but the rest
-pub record TakesBut (old now : LineReader) (before records : List Record) (piece rest : List ℕ) : Type 0 where
-  pub same : SameLog old.progress now.progress
-  pub in_range : IsInRange now.progress
-  pub stands : Stands now records
-  pub text : read_text now records ++ rest ≡ read_text old before ++ piece
+    module _ (new : Answering) (r : Option Record) (line : TakesLine mid part r new) where
+      one_more : (bytes : List ℕ) (records : List Record) → HasAnswered old bytes records → HasAnswered new (bytes ++ (so_far.front ++ with_lf part)) (with_read records r)
+      one_more bytes records had = rw (append_assoc bytes so_far.front (with_lf part)) at (takes_line (so_far.answered bytes records had) part one new r line)
+
+      -- a line of no record
+      pub goes_on : is_some r ≡ false → TakesFront old new piece after
+      goes_on none =
+          let no : r ≡ None = grind arith in
+          record {
+            same = record { core = ap (λ (s : Answering). s.core) line.1 ∙ so_far.same.core; cores = ap (λ (s : Answering). s.cores) line.1 ∙ so_far.same.cores };
+            faultless = ap (λ (s : Answering). s.fault) line.1 ∙ so_far.faultless;
+            front = so_far.front ++ with_lf part;
+            is = line_is;
+            answered = λ bytes records had. rw no at (one_more bytes records had);
+          }
+
+      -- a record's line
+      pub comes_to : is_some r ≡ true → (bytes : List ℕ) (records : List Record) → HasAnswered old bytes records
+          → AnswersOne bytes records piece (length piece - length after, r) new
+      comes_to some bytes records had = go r refl some
+        where
+          go : (o : Option Record) → r ≡ o → is_some o ≡ true → AnswersOne bytes records piece (length piece - length after, o) new
+          go None is never = cc
+          go (Some x) is any = (
+            omega (arith, ap length line_is, length-append (so_far.front ++ with_lf part) after, length-append so_far.front (with_lf part), length-append part (10 ∷ [])),
+            rw (front_is piece (so_far.front ++ with_lf part) after line_is) (rw is at (one_more bytes records had)),
+            ap (λ (s : Answering). s.begun) line.1,
+            last_read mid.stage new.stage mid (mid.begun ++ part) x (rw is at line.0),
+          )
+
+    pub line_refused : (f : LogFault) → IsLineRefused mid part f → (bytes : List ℕ) (records : List Record) → HasAnswered old bytes records
+        → IsSettled old.core old.cores (bytes ++ piece) f
+    line_refused f refused bytes records had =
+        let settled = last_part_refused (so_far.answered bytes records had) part one f refused in
+        let cut : ((bytes ++ so_far.front) ++ with_lf part) ++ after ≡ bytes ++ ((so_far.front ++ with_lf part) ++ after) = simp append_assoc in
+        let whole : ((bytes ++ so_far.front) ++ with_lf part) ++ after ≡ bytes ++ piece = cut ∙ ap (λ (xs : List ℕ). bytes ++ xs) (sym line_is) in
+        same_log (λ core cores. IsSettled core cores (bytes ++ piece) f) so_far.same.core so_far.same.cores
+        (rw whole at (settled_front mid.core mid.cores _ after f settled))
+
+  module _ (one : IsOneLine rest) (bytes : List ℕ) (records : List Record) (had : HasAnswered old bytes records) where
+    all_is : (bytes ++ so_far.front) ++ rest ≡ bytes ++ piece
+    all_is = append_assoc bytes so_far.front rest ∙ ap (λ (xs : List ℕ). bytes ++ xs) (sym so_far.is)
+
+    -- the rest has no line feed
+    pub rest_taken : (IsTooFar mid rest → ⊥) → HasAnswered (record mid { begun = mid.begun ++ rest }) (bytes ++ piece) records
+    rest_taken fits = rw all_is at (takes_part (so_far.answered bytes records had) rest one fits)
+
+    pub rest_refused : (f : LogFault) → IsPartRefused mid rest f → IsSettled old.core old.cores (bytes ++ piece) f
+    rest_refused f refused =
+        same_log (λ core cores. IsSettled core cores (bytes ++ piece) f) so_far.same.core so_far.same.cores
+        (rw all_is at (part_refused (so_far.answered bytes records had) rest one f refused))
+
+-- ---- all of a piece
+
+-- A reader that has read the records `before` took all of a piece but the rest, and has read `records` then.
+pub record TakesBut (old now : Answering) (before records : List Record) (piece rest : List ℕ) : Type 0 where
+  pub same : IsSameLog old now
+  pub front : List ℕ
+  pub is : piece ≡ front ++ rest
+  pub answered : HasAnswered now (fed_text old before ++ front) records
+
+-- nothing was taken yet
+pub none_taken : (s : Answering) (before : List Record) (piece : List ℕ) → HasAnswered s (fed_text s before) before → TakesBut s s before before piece piece
+none_taken s before piece had = record { same = record { core = refl; cores = refl }; front = []; is = refl; answered = rw append-nil had }
+
+-- what is answered where no fault came before
+pub piece_taken : {old new : Answering} {before records : List Record} {piece : List ℕ} (r : Result (Unit {0}) LogFault) → old.fault ≡ None → IsSameLog old new
+    → MatchResult r (λ _. HasAnswered new (fed_text old before ++ piece) records)
+    (λ fault. (new.fault ≡ Some fault) × IsSettled old.core old.cores (fed_text old before ++ piece) fault)
+    → TakesPiece old before piece r new records
+piece_taken r none same fed = record { core = same.core; cores = same.cores; fed = λ _. fed; again = rw none tt }
+
+few_in : (q : Stage) (core cores : ℕ) (records : List Record) (line : List ℕ) → IsInRecords q → IsSound q core cores records line → length records ≤ operation_limit
+few_in (stage.Records format) core cores records line at sound = sound.few
+few_in q core cores records line at sound = absurd at
+
+module _ {old mid : Answering} {before records : List Record} {piece rest : List ℕ} (so_far : TakesBut old mid before records piece rest) where
+  abbrev fed : List ℕ
+  fed = fed_text old before
+
+  whole : (fed ++ so_far.front) ++ rest ≡ fed ++ piece
+  whole = append_assoc fed so_far.front rest ∙ ap (λ (xs : List ℕ). fed ++ xs) (sym so_far.is)
+
+  module _ (new : Answering) (core : new.core ≡ mid.core) (cores : new.cores ≡ mid.cores) where
+    still_same : IsSameLog old new
+    still_same = record { core = core ∙ so_far.same.core; cores = cores ∙ so_far.same.cores }
+
+    module _ (one : ℕ × Option Record) (answers : (bytes : List ℕ) (rs : List Record) → HasAnswered mid bytes rs → AnswersOne bytes rs rest one new) where
+      module _ (r : Record) (is : one.1 ≡ Some r) where
+        next : AnswersOne (fed ++ so_far.front) records rest (one.0, Some r) new
+        next =
+            subst (λ (o : Option Record). AnswersOne (fed ++ so_far.front) records rest (one.0, o) new) is (answers (fed ++ so_far.front) records so_far.answered)
+
+        pub some_used : 0 < one.0
+        some_used = next.0
+
+        -- there was room for the record
+        pub room_for : length records < operation_limit
+        room_for =
+            let few = few_in new.stage new.core new.cores (records ++ r ∷ []) new.begun next.3 next.1.sound in
+            omega (arith, few, length-append records (r ∷ []))
+
+        pub one_taken : (after : List ℕ) → after ≡ drop one.0 rest → TakesBut old new before (records ++ r ∷ []) piece after
+        one_taken after after-is = record {
+          same = still_same;
+          front = so_far.front ++ take one.0 rest;
+          is =
+              so_far.is ∙ ap (λ (xs : List ℕ). so_far.front ++ xs) (sym (take-append-drop one.0 rest) ∙ ap (λ (xs : List ℕ). take one.0 rest ++ xs) (sym after-is))
+              ∙ sym (append_assoc so_far.front (take one.0 rest) after);
+          answered = rw (append_assoc fed so_far.front (take one.0 rest)) at next.1;
+        }
+
+      -- no record's line ends in the rest
+      pub all_taken : one.1 ≡ None → old.fault ≡ None → TakesPiece old before piece (Ok tt) new records
+      all_taken is none =
+          let last : AnswersOne (fed ++ so_far.front) records rest (one.0, None) new =
+          subst (λ (o : Option Record). AnswersOne (fed ++ so_far.front) records rest (one.0, o) new) is (answers (fed ++ so_far.front) records so_far.answered) in
+          let had : HasAnswered new ((fed ++ so_far.front) ++ rest) records = last.1 in
+          piece_taken (Ok tt) none still_same (rw whole at had)
+
+    -- the rest was refused
+    pub rest_refused_so : (f : LogFault) → ((bytes : List ℕ) (rs : List Record) → HasAnswered mid bytes rs → (new.fault ≡ Some f) × IsSettled mid.core mid.cores (bytes ++ rest) f)
+        → old.fault ≡ None → TakesPiece old before piece (Err f) new records
+    rest_refused_so f refused none =
+        let found = refused (fed ++ so_far.front) records so_far.answered in
+        let settled : IsSettled mid.core mid.cores (fed ++ piece) f = rw whole at found.1 in
+        piece_taken (Err f) none still_same (found.0, same_log (λ core cores. IsSettled core cores (fed ++ piece) f) so_far.same.core so_far.same.cores settled)

@@ -7,13 +7,14 @@ use Rattle.log_record.specs.declared.record.Record.{Record}
 use Rattle.log_file.specs.declared.fault.FormatFault.{FormatFault}
 use Rattle.log_file.specs.declared.fault.FormatFault.TheVariants.{TrailingBytes, Truncated}
 use Rattle.log_file.specs.declared.fault.LogFault.TheVariants.{At}
-use Rattle.log_file.specs.declared.progress.Progress.{Progress}
-use Rattle.log_file.specs.declared.progress.Stage.{Stage}
-use Rattle.log_file.specs.declared.progress.Stage.TheVariants as stage
+use Rattle.log_file.specs.declared.stage.Stage.{Stage}
+use Rattle.log_file.specs.declared.stage.Stage.TheVariants as stage
 use Rattle.log_file.specs.Feeding.{IsSettled}
 use Rattle.log_file.specs.Log.{Spells, HasNoFault, IsFirstFault, number, with_lf}
 use Rattle.log_file.specs.OneLine.{IsOneLine}
-use Rattle.log_file.specs.Standing.{BehindAt, IsSound, RefusedAt, limit_at, whole_text, with_read}
+use Rattle.log_file.specs.Answering.{Answering}
+use Rattle.log_file.specs.Standing.{IsSound, limit_at, whole_text}
+use Rattle.log_file.specs.inner.NextLine.{BehindAt, RefusedAt, count_with, with_read}
 use Rattle.log_file.proofs.OneLine.{body_outcome, header_outcome}
 use Rattle.log_file.proofs.Settled.{settled_front}
 use Rattle.log_file.proofs.Spelled.{spelled_quiet}
@@ -37,20 +38,20 @@ module _ (core cores : ℕ) where
       ((records : List Record) × Spells core cores bytes records)
       ⊎ (((k : ℕ) × ((f : FormatFault) × IsSettled core cores bytes (At k f))) ⊎ ((k : ℕ) × IsFirstFault core cores bytes k Truncated))
 
-  abbrev progress : Stage → ℕ → Progress
-  progress q count = record { core = core; cores = cores; stage = q; count = count }
+  abbrev reader : Stage → ℕ → Answering
+  reader q count = record { core = core; cores = cores; stage = q; count = count; begun = []; fault = None }
 
   -- a whole line is taken or refused
   outcome : (q : Stage) (count : ℕ) (l : List ℕ)
-      → ((r : Option Record) × ((p : Stage) × ((n : ℕ) × BehindAt q (progress q count) l r (progress p n))))
-      ⊎ ((k : ℕ) × ((f : FormatFault) × RefusedAt q (progress q count) l (At k f)))
+      → ((r : Option Record) × ((next : Stage) × BehindAt q (reader q count) l r next))
+      ⊎ ((k : ℕ) × ((f : FormatFault) × RefusedAt q core cores count l (At k f)))
   outcome stage.Header count l = elim (header_outcome core cores l) [
-    | inl taken ↦ inl (None, (stage.Records taken.0, (count, (taken.0, taken.1, refl))))
+    | inl taken ↦ inl (None, (stage.Records taken.0, (taken.0, taken.1, refl)))
     | inr refused ↦ inr (1, (refused.0, (refl, refused.1)))
   ]
   outcome (stage.Records format) count l = elim (body_outcome format count l) [
-    | inl taken ↦ inl (Some taken.0, (stage.Records format, (count + 1, (taken.1, taken.2, taken.3, refl))))
-    | inr (inl end) ↦ inl (None, (stage.Ended format, (count, (end, refl))))
+    | inl taken ↦ inl (Some taken.0, (stage.Records format, (taken.1, taken.2, taken.3, refl)))
+    | inr (inl end) ↦ inl (None, (stage.Ended format, (end, refl)))
     | inr (inr refused) ↦ inr (count + 2, (refused.0, (refl, refused.1)))
   ]
   outcome (stage.Ended format) count l = inr (count + 3, (TrailingBytes, (refl, refl)))
@@ -80,11 +81,11 @@ module _ (core cores : ℕ) where
         let whole = whole_text q core cores records in
         rw (s.1.1, ← (append_assoc whole (with_lf s.0) s.1.0)) (elim (outcome q count s.0) [
           | inl o ↦
-              let taken = line_taken q (progress q count) (progress o.1.0 o.1.1.0) s.0 [] o.0 records refl sound count-is o.1.1.1 in
+              let taken = line_taken q (reader q count) s.0 [] o.0 records o.1.0 sound count-is o.1.1 in
               let less : length s.1.0 < n = omega (arith, ap length s.1.1, length-append (with_lf s.0) s.1.0, length-append s.0 (10 ∷ [])) in
-              rw (← taken.2) (walk n o.1.0 o.1.1.0 (with_read records o.0) s.1.0 less taken.0 taken.1)
+              rw (← taken.2) (walk n o.1.0 (count_with count o.0) (with_read records o.0) s.1.0 less taken.0 taken.1)
           | inr o ↦
-              let refused = line_refused q (progress q count) s.0 [] (At o.0 o.1.0) records sound count-is s.1.2 o.1.1 in
+              let refused = line_refused q (reader q count) s.0 [] (At o.0 o.1.0) records sound count-is s.1.2 o.1.1 in
               inr (inl (o.0, (o.1.0, settled_front core cores (whole ++ with_lf s.0) s.1.0 (At o.0 o.1.0) refused)))
         ])
   ]

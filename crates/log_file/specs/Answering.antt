@@ -2,7 +2,7 @@
 use Rattle.std.specs.Prelude.{◌≡◌, ℕ, ◌<◌, ◌≤◌, List, [], ◌∷◌, ◌++◌, length, take, Option, None, Some}
 use Rattle.log_record.specs.declared.record.Record.{Record}
 use Rattle.log_file.specs.declared.fault.LogFault.{LogFault}
-use Rattle.log_file.specs.declared.progress.Stage.{Stage}
+use Rattle.log_file.specs.declared.stage.Stage.{Stage}
 use Rattle.log_file.specs.OneLine.{IsOneLine}
 use Rattle.log_file.specs.Standing.{IsInRecords, IsSound, limit_at, whole_text}
 

@@ -1,17 +1,19 @@
 -- How a reader of records keeps where it stands.
+use Rattle.std.specs.Prelude.{◌≤◌}
+use Rattle.mem_op.specs.Limits.{operation_limit}
 use Rattle.log_file.specs.declared.record_reader.RecordReader.TheInside.{Inside}
 use Rattle.log_file.specs.Answering.{Answering}
-use Rattle.log_file.specs.Standing.{IsInRange}
 
 abbrev pub answering_of : Inside → Answering
 answering_of a = record {
-  core = a.lines.progress.core;
-  cores = a.lines.progress.cores;
-  stage = a.lines.progress.stage;
-  count = a.lines.progress.count;
-  begun = a.lines.begun.items;
+  core = a.core;
+  cores = a.cores;
+  stage = a.stage;
+  count = a.count;
+  begun = a.begun.items;
   fault = a.fault;
 }
 
+-- no more records than a log may have
 abbrev pub IsReading : Inside → Type 0
-IsReading a = IsInRange a.lines.progress
+IsReading a = a.count ≤ operation_limit

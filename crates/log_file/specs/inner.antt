@@ -1,4 +1,5 @@
 -- Definitions that serve private contracts alone.
 pub mod EntryKeeping
-pub mod FedAll
 pub mod Listing
+pub mod NextLine
+pub mod TakesPiece

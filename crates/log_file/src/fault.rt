@@ -2,7 +2,7 @@
 
 use super::device_fault::ReadFailed;
 use mem_op::FaultName;
-use std::alloc::{AllocError, AllocFailed};
+use std::alloc::AllocError;
 use std::fmt;
 use std::fmt::Display;
 use thiserror::Error;
@@ -72,17 +72,6 @@ impl Display for LogFault {
             LogFault::OutOfMemory => write!(f, "{}", FaultName::OutOfMemory),
             LogFault::Read => write!(f, "{}", FaultName::Read),
         }
-    }
-}
-
-impl<T: Drop> From<AllocFailed<T>> for LogFault {
-    ghost use Rattle.std.specs.Prelude.{◌≡◌};
-    ghost use Rattle.log_file.specs.declared.fault.LogFault.TheVariants.{OutOfMemory};
-
-    ghost from_gives = { λ _ fault. fault ≡ OutOfMemory };
-
-    fn from(_: AllocFailed<T>) -> LogFault {
-        LogFault::OutOfMemory
     }
 }
 

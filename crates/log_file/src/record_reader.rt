@@ -1,85 +1,49 @@
 //! The records of a log, one at a time.
 
-ghost use Rattle.std.specs.Prelude.{◌≡◌, ◌<◌, ◌≤◌, ◌++◌, ℕ, List, [], None, Some, IfErr, IfOk, IfSome, IsNone, MatchResult, length};
+ghost use Rattle.std.specs.Prelude.{◌≡◌, ◌<◌, ◌≤◌, ◌++◌, ℕ, List, [], None, Some, Err, IfErr, IfOk, IfSome, IsNone, OnOk, MatchResult, length};
 ghost use Rattle.log_record.specs.declared.record.Record.{Record};
-ghost use Rattle.log_file.specs.Answering.{AnswersOne, HasAnswered, fed_text};
+ghost use Rattle.log_file.specs.Answering.{AnswersOne, HasAnswered};
 ghost use Rattle.log_file.specs.Answers.{IsFaultOf, IsOfText};
 ghost use Rattle.log_file.specs.Feeding.{IsSettled};
 ghost use Rattle.log_file.specs.Keeping.{KeepsRecords};
 ghost use Rattle.log_file.specs.Log.{Spells};
-ghost use Rattle.log_file.specs.inner.FedAll.{AnswersPiece};
-ghost use Rattle.log_file.specs.Standing.{IsInRange, IsSettledWith, SameLog, Stands, Takes, TakesRecord};
+ghost use Rattle.log_file.specs.inner.NextLine.{IsBehind, IsLineRefused, IsPartRefused, IsRefused, IsSameLog, IsTooFar, TakesLine, fault_of_more};
+ghost use Rattle.log_file.specs.inner.TakesPiece.{TakesPiece};
 
-use super::fault::LogFault;
-use super::line_reader::LineReader;
+use super::fault::{FormatFault, LogFault};
+use super::one_line::{LONGEST_LINE, check_body, check_header};
 use super::record_list::RecordList;
+use super::stage::Stage;
+use arrayvec::ArrayVec;
 use log_record::Record;
 use mem_op::CoreId;
+use memchr::memchr;
 use std::marker::Model;
 
-/// Takes the lines of a piece up to the first record's, and answers how many bytes those are and the
-/// record. If no record's line ends in the piece, it takes all of it.
-fn next_record(lines: &mut LineReader, piece: &[u8]) -> Result<(usize, Option<Record>), LogFault>
-    requires { IsInRange lines.old.progress }
-    ensures same { SameLog lines.old.progress lines.new.progress }
-    ensures in_range { IsInRange lines.new.progress }
-    ensures within { IfOk result (λ one. one.0 ≤ length piece.now) }
-    ensures text { IfErr result IsOfText }
-    ensures taken { (records : List Record) → Stands lines.old records → MatchResult result
-        (λ one. TakesRecord lines.old records piece.now one lines.new)
-        (IsSettledWith lines.old records piece.now) }
+/// The bytes of the begun line, or, if there are none, the line.
+#[inline(always)]
+fn begun_or<'a>(begun: &'a [u8], line: &'a [u8]) -> &'a [u8]
+    ensures none { begun.now ≡ [] → result.now ≡ line.now }
+    ensures some { 0 < length begun.now → result.now ≡ begun.now }
 {
-    let mut taken = 0;
-    while let Some(line) = lines.next_line(&piece[taken..])? {
-        taken += line.taken;
-        if line.logged.is_some() {
-            return Ok((taken, line.logged));
-        }
-    }
-    Ok((piece.len(), None))
-}
-
-/// Takes all of a piece, and keeps its records.
-fn take_piece<L: RecordList>(
-    lines: &mut LineReader,
-    records: &mut L,
-    piece: &[u8],
-) -> Result<(), LogFault>
-    requires in_range { IsInRange lines.old.progress }
-    requires stands { Stands lines.old (L.records records.old) }
-    ensures same { SameLog lines.old.progress lines.new.progress }
-    ensures in_range { IsInRange lines.new.progress }
-    ensures base { L.base records.new ≡ L.base records.old }
-    ensures taken { MatchResult result
-        (λ _. Takes lines.old (L.records records.old) piece.now lines.new (L.records records.new))
-        (IsSettledWith lines.old (L.records records.old) piece.now) }
-{
-    let mut rest = piece;
-    while let Some(line) = lines.next_line(rest)? {
-        if let Some(logged) = line.logged {
-            records.keep(logged)?;
-        }
-        rest = &rest[line.taken..];
-    }
-    Ok(())
-}
-
-/// Keeps the outcome's fault, if it has one, and answers the outcome.
-fn remember<T>(kept: &mut Option<LogFault>, outcome: Result<T, LogFault>) -> Result<T, LogFault>
-    ensures same { result ≡ outcome }
-    ensures kept { MatchResult outcome (λ _. kept.new ≡ kept.old) (λ fault. kept.new ≡ Some fault) }
-{
-    if let Err(fault) = outcome {
-        *kept = Some(fault);
-    }
-    outcome
+    if begun.is_empty() { line } else { begun }
 }
 
 /// Reads the log of one core, from pieces that may be cut anywhere, and answers its records one at a
 /// time. It keeps none of them.
 #[derive(Drop)]
 pub struct RecordReader {
-    lines: LineReader,
+    /// The core whose log it should be.
+    core: u64,
+    /// How many cores there should be.
+    cores: u64,
+    /// The last whole line that it took.
+    stage: Stage,
+    /// How many records it took.
+    count: u64,
+    /// The bytes of the line that isn't whole yet. The array has room for a line of any format.
+    begun: ArrayVec<u8, LONGEST_LINE>,
+    /// The fault that it answers from now on, if one came.
     fault: Option<LogFault>,
 }
 
@@ -103,14 +67,111 @@ impl RecordReader {
         ensures none { HasAnswered result [] [] }
     {
         RecordReader {
-            lines: LineReader::new(core.get(), cores),
+            core: core.get(),
+            cores,
+            stage: Stage::Header,
+            count: 0,
+            begun: ArrayVec::new(),
             fault: None,
+        }
+    }
+
+    // The fault of a line that is too long. After the end line even one byte is too many.
+    fn fault_of_more(&self) -> LogFault
+        ensures { result ≡ fault_of_more self.now.stage self.now.count }
+    {
+        match self.stage {
+            Stage::Header => LogFault::At(1, FormatFault::BadHeader),
+            Stage::Records(_) => LogFault::At(self.count + 2, FormatFault::BadLine),
+            Stage::Ended(_) => LogFault::At(self.count + 3, FormatFault::TrailingBytes),
+        }
+    }
+
+    // Answers this fault, and keeps it.
+    fn refuse<T>(&mut self, fault: LogFault) -> Result<T, LogFault>
+        ensures kept { self.new ≡ record self.old { fault = Some fault } }
+        ensures answered { result ≡ Err fault }
+    {
+        self.fault = Some(fault);
+        Err(fault)
+    }
+
+    // Answers the kept fault, if there is one.
+    fn faultless(&self) -> Result<(), LogFault>
+        ensures { MatchResult result (λ _. self.now.fault ≡ None) (λ fault. self.now.fault ≡ Some fault) }
+    {
+        match self.fault {
+            Some(fault) => Err(fault),
+            None => Ok(()),
+        }
+    }
+
+    // Takes a part of a line that isn't whole yet.
+    fn begin(&mut self, part: &[u8]) -> Result<(), LogFault>
+        ensures fits { OnOk result (¬ IsTooFar self.old part.now) }
+        ensures begun { OnOk result (self.new ≡ record self.old { begun = self.old.begun ++ part.now }) }
+        ensures refused { IfErr result (λ fault. IsPartRefused self.old part.now fault
+            × (self.new ≡ record self.old { fault = Some fault })) }
+    {
+        let ended = self.stage.is_ended() && !part.is_empty();
+        if ended || self.begun.len() + part.len() > self.stage.line_limit() {
+            return self.refuse(self.fault_of_more());
+        }
+        let Ok(()) = self.begun.try_extend_from_slice(part) else {
+            unreachable!()
+        };
+        Ok(())
+    }
+
+    // Checks a whole line, without its line feed, and answers which line was read last then, and the
+    // record if the line is one.
+    #[inline(always)]
+    fn check_line(&self, line: &[u8]) -> Result<(Stage, Option<Record>), LogFault>
+        ensures { MatchResult result
+            (λ found. IsBehind self.now line.now found.1 found.0) (IsRefused self.now line.now) }
+    {
+        match self.stage {
+            Stage::Header => match check_header(line, self.core, self.cores) {
+                Ok(format) => Ok((Stage::Records(format), None)),
+                Err(fault) => Err(LogFault::At(1, fault)),
+            },
+            Stage::Records(format) => match check_body(format, line, self.count) {
+                Ok(Some(logged)) => Ok((self.stage, Some(logged))),
+                Ok(None) => Ok((Stage::Ended(format), None)),
+                Err(fault) => Err(LogFault::At(self.count + 2, fault)),
+            },
+            Stage::Ended(_) => Err(self.fault_of_more()),
+        }
+    }
+
+    // Takes the last part of a line, and answers the record if the line is one.
+    #[inline(always)]
+    fn end(&mut self, part: &[u8]) -> Result<Option<Record>, LogFault>
+        ensures taken { IfOk result (λ logged. TakesLine self.old part.now logged self.new) }
+        ensures same { IsSameLog self.old self.new }
+        ensures refused { IfErr result (λ fault. IsLineRefused self.old part.now fault
+            × (self.new.fault ≡ Some fault)) }
+    {
+        if !self.begun.is_empty() {
+            self.begin(part)?;
+        }
+        match self.check_line(begun_or(self.begun.as_slice(), part)) {
+            Ok((stage, logged)) => {
+                self.stage = stage;
+                if logged.is_some() {
+                    self.count += 1;
+                }
+                self.begun.clear();
+                Ok(logged)
+            }
+            Err(fault) => self.refuse(fault),
         }
     }
 
     /// Takes the next bytes up to the end of the next record's line, and answers how many bytes those
     /// are, and the record. If no record's line ends in the piece, it takes all of it, and answers no
     /// record. After a fault it answers that same fault each time. Takes no memory.
+    #[inline(always)]
     pub fn feed_one(&mut self, piece: &[u8]) -> Result<(usize, Option<Record>), LogFault>
         ensures core { self.new.core ≡ self.old.core }
         ensures cores { self.new.cores ≡ self.old.cores }
@@ -128,7 +189,16 @@ impl RecordReader {
         ensures text { IsNone self.old.fault → IfErr result IsOfText }
     {
         self.faultless()?;
-        remember(&mut self.fault, next_record(&mut self.lines, piece))
+        let mut rest = piece;
+        while let Some(at) = memchr(b'\n', rest) {
+            let logged = self.end(&rest[..at])?;
+            rest = &rest[at + 1..];
+            if logged.is_some() {
+                return Ok((piece.len() - rest.len(), logged));
+            }
+        }
+        self.begin(rest)?;
+        Ok((piece.len(), None))
     }
 
     /// Takes all of a piece, and adds its records to this list, which has those of the pieces
@@ -140,20 +210,17 @@ impl RecordReader {
     ) -> Result<(), LogFault>
         requires { KeepsRecords self.old (L.records records.old) }
         ensures base { L.base records.new ≡ L.base records.old }
-        ensures fed { AnswersPiece self.old (L.records records.old) piece.now result self.new (L.records records.new) }
+        ensures fed { TakesPiece self.old (L.records records.old) piece.now result self.new (L.records records.new) }
     {
         self.faultless()?;
-        remember(&mut self.fault, take_piece(&mut self.lines, records, piece))
-    }
-
-    /// Answers the kept fault, if there is one.
-    fn faultless(&self) -> Result<(), LogFault>
-        ensures { MatchResult result (λ _. self.now.fault ≡ None) (λ fault. self.now.fault ≡ Some fault) }
-    {
-        match self.fault {
-            Some(fault) => Err(fault),
-            None => Ok(()),
+        let mut rest = piece;
+        while let (used, Some(logged)) = self.feed_one(rest)? {
+            if records.keep(logged).is_err() {
+                return self.refuse(LogFault::OutOfMemory);
+            }
+            rest = &rest[used..];
         }
+        Ok(())
     }
 
     /// Whether the log is whole if its bytes end here. If it isn't, answers the fault that came
@@ -166,7 +233,11 @@ impl RecordReader {
         ensures again { IfSome self.now.fault (λ fault. MatchResult result (λ _. ⊥) (λ f. f ≡ fault)) }
     {
         self.faultless()?;
-        self.lines.finish()
+        match self.stage {
+            Stage::Header => Err(LogFault::At(1, FormatFault::Truncated)),
+            Stage::Records(_) => Err(LogFault::At(self.count + 2, FormatFault::Truncated)),
+            Stage::Ended(_) => Ok(()),
+        }
     }
 
     /// Ends the reading, with the answer of `check_end`.

@@ -7,8 +7,8 @@ use Rattle.std.proofs.lemmas.List.{map-append}
 use Rattle.log_record.specs.declared.format.Format.{Format}
 use Rattle.log_record.specs.declared.record.Record.{Record}
 use Rattle.log_record.specs.Line.{FitsIn, end_text, format_number, header_text, record_text}
-use Rattle.log_file.specs.declared.progress.Stage.{Stage}
-use Rattle.log_file.specs.declared.progress.Stage.TheVariants as last_read
+use Rattle.log_file.specs.declared.stage.Stage.{Stage}
+use Rattle.log_file.specs.declared.stage.Stage.TheVariants as last_read
 use Rattle.log_file.specs.Answering.{Answering, HasAnswered}
 use Rattle.log_file.specs.Log.{Spells, begun, text_of, with_lf}
 use Rattle.log_file.specs.Standing.{IsSound, whole_text}

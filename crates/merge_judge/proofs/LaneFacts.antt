@@ -12,8 +12,8 @@ use Rattle.merge_judge.specs.OpenedLog.{OpenedLog}
 use Rattle.merge_judge.specs.inner.Following.{FollowsOn, IsNext, IsNextOn}
 use Rattle.merge_judge.specs.inner.Lanes.{IsLaneAt, IsStage, falls_now, front_list}
 use Rattle.mem_op.specs.Limits.{operation_limit}
-use Rattle.log_file.specs.declared.progress.Stage.{Stage}
-use Rattle.log_file.specs.declared.progress.Stage.TheVariants as last_read
+use Rattle.log_file.specs.declared.stage.Stage.{Stage}
+use Rattle.log_file.specs.declared.stage.Stage.TheVariants as last_read
 use Rattle.log_file.specs.Answering.{Answering, HasAnswered}
 use Rattle.log_file.specs.Standing.{IsSound}
 use Rattle.merge_judge.proofs.Falls.{fall_past, fall_stays, falls_never, first_falls}

@@ -3,7 +3,7 @@ use Rattle.std.specs.Prelude.{◌<◌, ◌≤◌, ℕ, Bool, true, false, List, 
 use Rattle.log_record.specs.declared.format.Format.TheVariants.{Two}
 use Rattle.log_record.specs.declared.record.Record.{Record}
 use Rattle.log_record.specs.Line.{end_text, record_text}
-use Rattle.log_file.specs.declared.progress.Stage.TheVariants.{Records}
+use Rattle.log_file.specs.declared.stage.Stage.TheVariants.{Records}
 use Rattle.log_file.specs.Log.{spelling, text_of}
 use Rattle.merge_judge.specs.LaneParts.{KeptLog}
 use Rattle.merge_judge.specs.Records.{AreOfLog}

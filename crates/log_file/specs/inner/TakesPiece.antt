@@ -1,12 +1,12 @@
--- What a reader answers to a piece that it takes all of.
+-- What a reader takes of a piece.
 use Rattle.std.specs.Prelude.{◌≡◌, ◌++◌, ℕ, List, None, Some, Result, IfSome, MatchResult}
 use Rattle.log_record.specs.declared.record.Record.{Record}
 use Rattle.log_file.specs.declared.fault.LogFault.{LogFault}
 use Rattle.log_file.specs.Answering.{Answering, HasAnswered, fed_text}
 use Rattle.log_file.specs.Feeding.{IsSettled}
 
--- What the reader answers, and keeps. It stays a reader of the same log.
-pub record AnswersPiece (old : Answering) (before : List Record) (piece : List ℕ) (r : Result (Unit {0}) LogFault)
+-- A reader that has read the records `before` takes all of a piece, and has read `records` then. It stays a reader of the same log.
+pub record TakesPiece (old : Answering) (before : List Record) (piece : List ℕ) (r : Result (Unit {0}) LogFault)
     (new : Answering) (records : List Record) : Type 0 where
   pub core : new.core ≡ old.core
   pub cores : new.cores ≡ old.cores
