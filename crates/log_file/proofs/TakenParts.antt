@@ -1,6 +1,6 @@
 -- The parts of a piece that a reader has taken.
-use Rattle.std.proofs.Common.{◌≡◌, ◌∙◌, ◌-◌, ◌<◌, ◌≤◌, ℕ, List, [], ◌∷◌, ◌++◌, Option, None, Some, length, take, drop, ap, arith, refl, subst, sym, append_assoc, append-nil, length-append}
-use Rattle.std.specs.Prelude.{MatchResult, Result, Ok, Err, is_some, true, false}
+use Rattle.std.proofs.Common.{◌≡◌, ◌∙◌, ◌-◌, ◌<◌, ◌≤◌, ℕ, List, [], ◌∷◌, ◌++◌, Option, None, Some, length, take, drop, ap, arith, refl, subst, sym, append_assoc, length-append}
+use Rattle.std.specs.Prelude.{MatchResult, Result, is_some, true, false}
 use Rattle.std.proofs.lemmas.List.{take_at, take-append-drop}
 use Rattle.mem_op.specs.Limits.{operation_limit}
 use Rattle.log_record.specs.declared.record.Record.{Record}
@@ -33,15 +33,6 @@ pub record TakesFront (old now : Answering) (piece rest : List ℕ) : Type 0 whe
   pub front : List ℕ
   pub is : piece ≡ front ++ rest
   pub answered : (bytes : List ℕ) (records : List Record) → HasAnswered old bytes records → HasAnswered now (bytes ++ front) records
-
-pub nothing_taken : (s : Answering) (piece : List ℕ) → s.fault ≡ None → TakesFront s s piece piece
-nothing_taken s piece none = record {
-  same = record { core = refl; cores = refl };
-  faultless = none;
-  front = [];
-  is = refl;
-  answered = λ bytes records had. rw append-nil had;
-}
 
 module _ {old mid : Answering} {piece rest : List ℕ} (so_far : TakesFront old mid piece rest) where
   module _ (part after : List ℕ) (one : IsOneLine part) (feed : rest ≡ with_lf part ++ after) where
@@ -103,16 +94,12 @@ module _ {old mid : Answering} {piece rest : List ℕ} (so_far : TakesFront old 
 
 -- ---- all of a piece
 
--- A reader that has read the records `before` took all of a piece but the rest, and has read `records` then.
-pub record TakesBut (old now : Answering) (before records : List Record) (piece rest : List ℕ) : Type 0 where
+-- A reader took all bytes of a text but the rest, and has read these records then.
+pub record TakesBut (old now : Answering) (records : List Record) (text rest : List ℕ) : Type 0 where
   pub same : IsSameLog old now
-  pub front : List ℕ
-  pub is : piece ≡ front ++ rest
-  pub answered : HasAnswered now (fed_text old before ++ front) records
-
--- nothing was taken yet
-pub none_taken : (s : Answering) (before : List Record) (piece : List ℕ) → HasAnswered s (fed_text s before) before → TakesBut s s before before piece piece
-none_taken s before piece had = record { same = record { core = refl; cores = refl }; front = []; is = refl; answered = rw append-nil had }
+  pub bytes : List ℕ
+  pub is : bytes ++ rest ≡ text
+  pub answered : HasAnswered now bytes records
 
 -- what is answered where no fault came before
 pub piece_taken : {old new : Answering} {before records : List Record} {piece : List ℕ} (r : Result (Unit {0}) LogFault) → old.fault ≡ None → IsSameLog old new
@@ -125,54 +112,42 @@ few_in : (q : Stage) (core cores : ℕ) (records : List Record) (line : List ℕ
 few_in (stage.Records format) core cores records line at sound = sound.few
 few_in q core cores records line at sound = absurd at
 
-module _ {old mid : Answering} {before records : List Record} {piece rest : List ℕ} (so_far : TakesBut old mid before records piece rest) where
-  abbrev fed : List ℕ
-  fed = fed_text old before
+module _ {old mid : Answering} {records : List Record} {text rest : List ℕ} (so_far : TakesBut old mid records text rest)
+    (new : Answering) (core : new.core ≡ mid.core) (cores : new.cores ≡ mid.cores) where
+  pub still_same : IsSameLog old new
+  still_same = record { core = core ∙ so_far.same.core; cores = cores ∙ so_far.same.cores }
 
-  whole : (fed ++ so_far.front) ++ rest ≡ fed ++ piece
-  whole = append_assoc fed so_far.front rest ∙ ap (λ (xs : List ℕ). fed ++ xs) (sym so_far.is)
+  module _ (one : ℕ × Option Record) (answers : (bytes : List ℕ) (rs : List Record) → HasAnswered mid bytes rs → AnswersOne bytes rs rest one new) where
+    answered : (o : Option Record) → one.1 ≡ o → AnswersOne so_far.bytes records rest (one.0, o) new
+    answered o is = subst (λ (p : Option Record). AnswersOne so_far.bytes records rest (one.0, p) new) is (answers so_far.bytes records so_far.answered)
 
-  module _ (new : Answering) (core : new.core ≡ mid.core) (cores : new.cores ≡ mid.cores) where
-    still_same : IsSameLog old new
-    still_same = record { core = core ∙ so_far.same.core; cores = cores ∙ so_far.same.cores }
+    module _ (r : Record) (is : one.1 ≡ Some r) where
+      pub some_used : 0 < one.0
+      some_used = (answered (Some r) is).0
 
-    module _ (one : ℕ × Option Record) (answers : (bytes : List ℕ) (rs : List Record) → HasAnswered mid bytes rs → AnswersOne bytes rs rest one new) where
-      module _ (r : Record) (is : one.1 ≡ Some r) where
-        next : AnswersOne (fed ++ so_far.front) records rest (one.0, Some r) new
-        next =
-            subst (λ (o : Option Record). AnswersOne (fed ++ so_far.front) records rest (one.0, o) new) is (answers (fed ++ so_far.front) records so_far.answered)
+      -- there was room for the record
+      pub room_for : length records < operation_limit
+      room_for =
+          let next = answered (Some r) is in
+          let few = few_in new.stage new.core new.cores (records ++ r ∷ []) new.begun next.3 next.1.sound in
+          omega (arith, few, length-append records (r ∷ []))
 
-        pub some_used : 0 < one.0
-        some_used = next.0
+      pub one_taken : (after : List ℕ) → after ≡ drop one.0 rest → TakesBut old new (records ++ r ∷ []) text after
+      one_taken after after-is = record {
+        same = still_same;
+        bytes = so_far.bytes ++ take one.0 rest;
+        is = append_assoc so_far.bytes (take one.0 rest) after ∙ ap (λ (xs : List ℕ). so_far.bytes ++ xs) (rw after-is (take-append-drop one.0 rest)) ∙ so_far.is;
+        answered = (answered (Some r) is).1;
+      }
 
-        -- there was room for the record
-        pub room_for : length records < operation_limit
-        room_for =
-            let few = few_in new.stage new.core new.cores (records ++ r ∷ []) new.begun next.3 next.1.sound in
-            omega (arith, few, length-append records (r ∷ []))
+    -- no record's line ends in the rest
+    pub all_taken : one.1 ≡ None → HasAnswered new text records
+    all_taken is = rw so_far.is at (answered None is).1
 
-        pub one_taken : (after : List ℕ) → after ≡ drop one.0 rest → TakesBut old new before (records ++ r ∷ []) piece after
-        one_taken after after-is = record {
-          same = still_same;
-          front = so_far.front ++ take one.0 rest;
-          is =
-              so_far.is ∙ ap (λ (xs : List ℕ). so_far.front ++ xs) (sym (take-append-drop one.0 rest) ∙ ap (λ (xs : List ℕ). take one.0 rest ++ xs) (sym after-is))
-              ∙ sym (append_assoc so_far.front (take one.0 rest) after);
-          answered = rw (append_assoc fed so_far.front (take one.0 rest)) at next.1;
-        }
-
-      -- no record's line ends in the rest
-      pub all_taken : one.1 ≡ None → old.fault ≡ None → TakesPiece old before piece (Ok tt) new records
-      all_taken is none =
-          let last : AnswersOne (fed ++ so_far.front) records rest (one.0, None) new =
-          subst (λ (o : Option Record). AnswersOne (fed ++ so_far.front) records rest (one.0, o) new) is (answers (fed ++ so_far.front) records so_far.answered) in
-          let had : HasAnswered new ((fed ++ so_far.front) ++ rest) records = last.1 in
-          piece_taken (Ok tt) none still_same (rw whole at had)
-
-    -- the rest was refused
-    pub rest_refused_so : (f : LogFault) → ((bytes : List ℕ) (rs : List Record) → HasAnswered mid bytes rs → (new.fault ≡ Some f) × IsSettled mid.core mid.cores (bytes ++ rest) f)
-        → old.fault ≡ None → TakesPiece old before piece (Err f) new records
-    rest_refused_so f refused none =
-        let found = refused (fed ++ so_far.front) records so_far.answered in
-        let settled : IsSettled mid.core mid.cores (fed ++ piece) f = rw whole at found.1 in
-        piece_taken (Err f) none still_same (found.0, same_log (λ core cores. IsSettled core cores (fed ++ piece) f) so_far.same.core so_far.same.cores settled)
+  -- the rest was refused
+  pub rest_settled : (f : LogFault) → ((bytes : List ℕ) (rs : List Record) → HasAnswered mid bytes rs → (new.fault ≡ Some f) × IsSettled mid.core mid.cores (bytes ++ rest) f)
+      → (new.fault ≡ Some f) × IsSettled old.core old.cores text f
+  rest_settled f refused =
+      let found = refused so_far.bytes records so_far.answered in
+      let settled = same_log (λ core cores. IsSettled core cores (so_far.bytes ++ rest) f) so_far.same.core so_far.same.cores found.1 in
+      (found.0, rw so_far.is at settled)

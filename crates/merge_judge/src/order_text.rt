@@ -7,6 +7,7 @@ ghost use Rattle.merge_judge.specs.OrderText.{end_line, id_line, order_text};
 ghost use Rattle.merge_judge.specs.inner.Writing.{IsWritten};
 
 use super::order::Order;
+use itoa::Buffer;
 use log_file::{ByteSink, WriteFault, write_all};
 use mem_op::OpId;
 use std::alloc::{AllocError, Global};
@@ -33,7 +34,11 @@ impl Model for OrderText {
 fn push_id(text: &mut String, id: OpId) -> Result<(), AllocError>
     ensures { OnOk result (string_bytes text.new ≡ string_bytes text.old ++ id_line id) }
 {
-    writeln!(text, "{id}")
+    let mut digits = Buffer::new();
+    text.push_str(digits.format(id.core.get()))?;
+    text.push('.')?;
+    text.push_str(digits.format(id.index.get()))?;
+    text.push('\n')
 }
 
 /// Adds the last line to a text.

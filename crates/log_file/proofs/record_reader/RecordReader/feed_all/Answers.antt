@@ -1,8 +1,8 @@
 -- One record more, and a piece that is refused.
-use Rattle.std.proofs.Common.{rules, ◌≡◌, ◌++◌, ◌∷◌, [], None, arith}
+use Rattle.std.proofs.Common.{rules, ◌≡◌, ◌++◌, ◌∷◌, [], Err, None, Ok, arith}
 use Rattle.std.proofs.lemmas.List.{length-drop, take_rest}
 use Rattle.std.proofs.lemmas.Result.{err_from_is_err_and}
-use Rattle.log_file.proofs.TakenParts.{all_taken, one_taken, rest_refused_so, room_for, some_used}
+use Rattle.log_file.proofs.TakenParts.{all_taken, one_taken, piece_taken, rest_settled, room_for, some_used, still_same}
 use Rattle.log_file.proofs.record_reader.RecordReader.feed_all.Goals as goal
 
 pub keep-requires : goal.keep-requires
@@ -31,10 +31,15 @@ pub returns-in_err-used-clause-fed : goal.returns-in_err-used-clause-fed
 returns-in_err-used-clause-fed g c =
     let p = err_from_is_err_and c.from_residual-in_err-used.result c.from_residual-in_err-used.ensures.1 in
     let e = c.in_err-used.ensures in
-    rw (p.1, p.2) (rest_refused_so c.loop-used.invariant.0 c.feed_one.new.self e.core e.cores c.in_err-used.field-0.0 e.fed c.in_ok-faultless.ensures)
+    let so_far = c.loop-used.invariant.0 in
+    let f = c.in_err-used.field-0.0 in
+    rw (p.1, p.2) (piece_taken (Err f) c.in_ok-faultless.ensures (still_same so_far c.feed_one.new.self e.core e.cores)
+    (rest_settled so_far c.feed_one.new.self e.core e.cores f e.fed))
 
 pub returns-clause-fed : goal.returns-clause-fed
 returns-clause-fed g c =
     let e = c.in_ok-used.ensures in
+    let so_far = c.loop-used.invariant.0 in
     let none : c.in_ok-used.field-0.1 ≡ None = search rules in
-    all_taken c.loop-used.invariant.0 c.feed_one.new.self e.core e.cores c.in_ok-used.field-0 e.fed none c.in_ok-faultless.ensures
+    piece_taken (Ok tt) c.in_ok-faultless.ensures (still_same so_far c.feed_one.new.self e.core e.cores)
+    (all_taken so_far c.feed_one.new.self e.core e.cores c.in_ok-used.field-0 e.fed none)
