@@ -50,27 +50,38 @@ pub fn number(alloc: Global, cores: &[Vec<Access>]) -> Tried<(Operations, Classe
 
 /// What these cores' operations read and stored, in order.
 fn touches(alloc: Global, cores: &[Vec<Access>]) -> Tried<Vec<Touch>> {
+    let mut touches = Vec::with_capacity(alloc, count_touches(cores))?;
+    for (access, place) in cores.iter().flatten().zip(1..=u32::MAX) {
+        let addr = access.addr();
+        if let Some(word) = access.read() {
+            touches.push(Touch {
+                addr,
+                word,
+                place,
+                stores: false,
+            })?;
+        }
+        if access.is_store_to(addr) {
+            touches.push(Touch {
+                addr,
+                word: access.word_left(),
+                place,
+                stores: true,
+            })?;
+        }
+    }
+    touches.sort_unstable();
+    Ok(touches)
+}
+
+/// How many words these cores' operations read and stored.
+fn count_touches(cores: &[Vec<Access>]) -> usize {
     let mut count = 0usize;
     for access in cores.iter().flatten() {
         let is_swap = access.read().is_some() && access.is_store_to(access.addr());
         count = count.saturating_add(usize::from(is_swap)).saturating_add(1);
     }
-    let mut touches = Vec::with_capacity(alloc, count)?;
-    for (access, place) in cores.iter().flatten().zip(1..=u32::MAX) {
-        let addr = access.addr();
-        let touch = |word, stores| Touch {
-            addr,
-            word,
-            place,
-            stores,
-        };
-        touches.extend(access.read().map(|word| touch(word, false)))?;
-        if access.is_store_to(addr) {
-            touches.push(touch(access.word_left(), true))?;
-        }
-    }
-    touches.sort_unstable();
-    Ok(touches)
+    count
 }
 
 impl Classes {

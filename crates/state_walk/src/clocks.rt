@@ -17,9 +17,10 @@ impl Clocks {
         let length = operations.all.len().saturating_mul(cores as usize);
         let mut entries = Vec::with_capacity(alloc, length)?;
         for (operation, next) in operations.all.iter().zip(1..=u32::MAX) {
-            let starts = operations.starts.iter().zip(0..=u32::MAX);
-            let own = operation.core();
-            entries.extend(starts.map(|(start, core)| if core == own { next } else { *start }))?;
+            for (start, core) in operations.starts.iter().zip(0..=u32::MAX) {
+                let is_own = core == operation.core();
+                entries.push(if is_own { next } else { *start })?;
+            }
         }
         Ok(Clocks { cores, entries })
     }

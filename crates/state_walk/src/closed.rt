@@ -127,13 +127,16 @@ impl<'a> ClosedSet<'a> {
     fn awaited(&self, core: u32) -> Option<u32> {
         let next = at(&self.state.positions, core);
         let first = self.known.partition_point(|known| known.later < next);
-        let of_next = self.known.get(first..)?.iter();
-        let mut of_next = of_next.take_while(|known| known.later == next);
-        let awaited = of_next.find(|known| {
+        for known in self.known.get(first..)? {
+            if known.later != next {
+                break;
+            }
             let core = self.state.operations.core(known.earlier);
-            known.earlier >= at(&self.state.positions, core)
-        });
-        awaited.map(|known| known.fact)
+            if known.earlier >= at(&self.state.positions, core) {
+                return Some(known.fact);
+            }
+        }
+        None
     }
 
     /// The words at the addresses of the set.

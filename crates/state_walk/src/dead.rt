@@ -15,8 +15,12 @@ pub(crate) enum Dead {
 impl State<'_> {
     /// Why nothing leads from here to the end, after a class was written over; None if nothing shows that.
     pub(crate) fn dead(&self, ruined: Option<u32>) -> Option<Dead> {
-        let starved = ruined.and_then(|class| self.starved(class));
-        starved.or_else(|| self.deadlocked())
+        if let Some(class) = ruined
+            && let Some(starved) = self.starved(class)
+        {
+            return Some(starved);
+        }
+        self.deadlocked()
     }
 
     /// The place at which a core waits in a dead state, or where its operations end.
@@ -74,7 +78,8 @@ impl State<'_> {
     fn awaits(&self, core: u32) -> Option<u32> {
         let (_, next) = self.next(core)?;
         let word = at(&self.memory, next.address);
-        next.read().filter(|read| *read != word)
+        let read = next.read()?;
+        (read != word).then_some(read)
     }
 
     /// Whether a core that isn't in a set stores a class from here on.

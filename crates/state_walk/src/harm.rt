@@ -56,14 +56,21 @@ impl State<'_> {
     /// read another word than the one that is there.
     pub(crate) fn seems_harmless(&self, core: u32, store: &Operation) -> bool {
         let word = at(&self.memory, store.address);
-        let mut others = self.cores.iter();
-        !others.any(|other| *other != core && self.wants(*other, store.address, word))
+        for other in self.cores {
+            if *other != core && self.wants(*other, store.address, word) {
+                return false;
+            }
+        }
+        true
     }
 
     /// Whether a core soon touches an address, other than to read another word than this one.
     fn wants(&self, core: u32, address: u32, word: u32) -> bool {
-        let mut ahead = self.ahead(core, SOON).iter();
-        let touch = ahead.find(|next| next.address == address);
-        touch.is_some_and(|touch| touch.fits(word))
+        for next in self.ahead(core, SOON) {
+            if next.address == address {
+                return next.fits(word);
+            }
+        }
+        false
     }
 }

@@ -1,7 +1,7 @@
 //! How a state looks: how far reads are from their words.
 
 use super::state::State;
-use numbered_trace::{Operation, Place, at};
+use numbered_trace::{NONE, Operation, START, at};
 
 /// How many of a core's next operations count.
 const AHEAD: u32 = 12;
@@ -64,7 +64,7 @@ impl State<'_> {
             return outlook.saturating_add(FITS.get(far).copied().unwrap_or(0));
         }
         let misfit = MISFITS.get(far).copied().unwrap_or(0);
-        let near = self.nearest_store(read, core).unwrap_or(0);
+        let near = self.nearest_store(read, core);
         let wait = u64::from(near.min(LONG)).saturating_sub(far as u64);
         let long = wait
             .wrapping_mul(wait)
@@ -74,14 +74,16 @@ impl State<'_> {
             .saturating_sub(long.unwrap_or(0))
     }
 
-    /// How far ahead another core's nearest store of a class is.
-    fn nearest_store(&self, class: u32, core: u32) -> Option<Place> {
+    /// How far ahead another core's nearest store of a class is; 0 if there is none.
+    fn nearest_store(&self, class: u32, core: u32) -> u32 {
         let mut stores = self.classes.stores_of(class);
-        let first = stores
-            .first()
-            .map_or(0, |store| self.operations.core(*store));
-        let mut nearest = None;
-        for other in self.cores.iter().filter(|other| **other >= first) {
+        let first_store = stores.first().copied().unwrap_or(START);
+        let first = self.operations.core(first_store);
+        let mut nearest = NONE;
+        for other in self.cores {
+            if *other < first {
+                continue;
+            }
             let position = at(&self.positions, *other);
             let done = stores.partition_point(|store| *store < position);
             stores = stores.get(done..).unwrap_or(&[]);
@@ -89,10 +91,9 @@ impl State<'_> {
                 break;
             };
             if *other != core && *store < self.operations.end(*other) {
-                let ahead = store.saturating_sub(position);
-                nearest = Some(nearest.map_or(ahead, |least: Place| least.min(ahead)));
+                nearest = nearest.min(store.saturating_sub(position));
             }
         }
-        nearest
+        if nearest == NONE { 0 } else { nearest }
     }
 }

@@ -91,8 +91,12 @@ impl<'a> State<'a> {
     /// its own core's entry is right behind it.
     fn waits(&self, place: Place) -> bool {
         let own = place.wrapping_add(1);
-        let mut entries = self.clock(place).iter().zip(&self.positions);
-        entries.any(|(entry, position)| entry > position && *entry != own)
+        for (entry, position) in self.clock(place).iter().zip(&self.positions) {
+            if entry > position && *entry != own {
+                return true;
+            }
+        }
+        false
     }
 
     /// The clock of the operation at a place; empty if nothing is known.
@@ -109,9 +113,10 @@ impl<'a> State<'a> {
         if place < position {
             return 0;
         }
-        let entries = self.clock(place).iter().zip(&self.positions);
-        let left = entries.map(|(entry, position)| entry.saturating_sub(*position));
-        let known = left.fold(0u32, |sum, count| sum.saturating_add(count));
+        let mut known = 0u32;
+        for (entry, position) in self.clock(place).iter().zip(&self.positions) {
+            known = known.saturating_add(entry.saturating_sub(*position));
+        }
         known.max(place.saturating_sub(position).saturating_add(1))
     }
 
@@ -218,9 +223,7 @@ impl<'a> State<'a> {
     pub(crate) fn ruined_by(&self, core: u32) -> Option<u32> {
         let (_, next) = self.next(core)?;
         let word = at(&self.memory, next.address);
-        next.stored()
-            .is_some_and(|stored| stored != word)
-            .then_some(word)
+        (next.stored()? != word).then_some(word)
     }
 }
 

@@ -56,7 +56,8 @@ impl Touches {
     /// The touch of a class by the core that is entered now, after all that come behind it. It is made if there is none.
     fn of_core(&mut self, class: u32, core: u32) -> Tried<&mut Touched> {
         let next = at(&self.firsts, class);
-        if self.get(next).is_none_or(|first| first.core != core) {
+        let is_entered = matches!(self.get(next), Some(first) if first.core == core);
+        if !is_entered {
             put(&mut self.firsts, class, short(self.all.len())?)?;
             self.all.push(Touched {
                 core,

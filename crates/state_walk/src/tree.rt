@@ -174,10 +174,8 @@ impl Tree {
                 break;
             };
             let depth = self.node(half)?.depth;
-            if self
-                .queue
-                .peek()
-                .is_some_and(|(best, _)| *best > foremost(depth, 1))
+            if let Some((best, _)) = self.queue.peek()
+                && *best > foremost(depth, 1)
             {
                 break;
             }

@@ -80,8 +80,9 @@ impl<'a> Walk<'a> {
     fn addresses_ahead(&self, alloc: Global, count: u32) -> Tried<Vec<u32>> {
         let mut addresses = Vec::new(alloc);
         for core in self.state.cores {
-            let ahead = self.state.ahead(*core, count).iter();
-            addresses.extend(ahead.map(|operation| operation.address))?;
+            for operation in self.state.ahead(*core, count) {
+                addresses.push(operation.address)?;
+            }
         }
         addresses.sort_unstable();
         addresses.dedup();
