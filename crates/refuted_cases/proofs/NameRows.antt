@@ -1,5 +1,5 @@
 -- What is read of a line is just the address and the name whose line it is.
-use Rattle.std.proofs.Common.{◌≡◌, ℕ, ◌^◌, true, List, [], ◌∷◌, ◌++◌, Option, Some, None, ap, subst, sym, ◌∙◌}
+use Rattle.std.proofs.Common.{◌≡◌, ℕ, ◌^◌, true, List, [], ◌∷◌, ◌++◌, Some, None, ap, subst, sym, ◌∙◌}
 use Rattle.std.specs.Char.{is_ascii_digit, is_ascii_graphic}
 use Rattle.std.specs.List.{list_all}
 use Rattle.std.specs.Prelude.{not, nat_le, ◌&&◌, length}

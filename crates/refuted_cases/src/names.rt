@@ -1,6 +1,6 @@
 //! Names that are told in place of addresses.
 
-ghost use Rattle.std.specs.Prelude.{◌≡◌, IfOk, IfSome, IsNone, MatchResult, option_map};
+ghost use Rattle.std.specs.Prelude.{◌≡◌, IfSome, IsNone, MatchResult, option_map};
 ghost use Rattle.std.specs.Char.{is_ascii_graphic};
 ghost use Rattle.std.specs.List.{list_all};
 ghost use Rattle.decimal_text.specs.Reading.{front_now};
