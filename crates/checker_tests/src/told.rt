@@ -2,6 +2,7 @@
 
 use pictures::draw_refutation;
 use refutation::Refutation;
+use refuted_cases::Names;
 use std::test::Fail;
 use telling::tell;
 use trace::Trace;
@@ -70,9 +71,10 @@ fn refutations_are_told_and_drawn(rt: HostRuntime) -> Result<(), Fail> {
     for case in &[BUFFERED, LOST_UPDATE, DEAD_STATE] {
         let trace = Trace::parse(rt.alloc(), case.trace)?;
         let steps = Refutation::parse(rt.alloc(), case.steps)?;
-        let told = tell(rt.alloc(), &trace, &steps)?;
+        let names = Names::none(rt.alloc());
+        let told = tell(rt.alloc(), &names, &trace, &steps)?;
         assert_eq!(rt; told.as_str(), case.told);
-        let svg = draw_refutation(rt.alloc(), told.as_str(), &trace, &steps)?;
+        let svg = draw_refutation(rt.alloc(), told.as_str(), &names, &trace, &steps)?;
         for part in case.parts.lines() {
             let is_there = match part.strip_prefix('-') {
                 Some(absent) => !svg.as_str().contains(absent),

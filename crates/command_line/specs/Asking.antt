@@ -80,13 +80,14 @@ pub record AreMarked (litmus programs trace : Bool) (certificate : Option Text) 
   pub trace_flag : IsFlag (one_of (codes "trace") rows) trace
   pub certificate_is : first_of (codes "certificate") rows ≡ certificate
 
--- A check by one worker of the files that were given, against the programs that were given, with the file that was given for a picture, and whether
--- no other order is to be searched for. No option says that a file isn't a log.
+-- A check by one worker of the files that were given, against the programs that were given, with the file that was given for a picture, the names that
+-- were given for addresses, and whether no other order is to be searched for. No option says that a file isn't a log.
 pub record IsExplain (rows : List Row) (explain : Explain) : Type 0 where
   pub marks : AreMarked false false false None rows
   pub workers : explain.check.workers ≡ 1
   pub program : text_of explain.check.program ≡ first_of (codes "program") rows
   pub picture : text_of explain.picture ≡ first_of (codes "svg") rows
+  pub names : text_of explain.names ≡ first_of (codes "names") rows
   pub no_search : IsFlag (one_of (codes "no-search") rows) explain.no_search
   pub files : texts explain.check.files.items ≡ unwrap_or (all_of (codes "FILE") rows) []
 
@@ -94,6 +95,7 @@ pub record IsExplain (rows : List Row) (explain : Explain) : Type 0 where
 pub record LackLogOptions (rows : List Row) : Type 0 where
   pub program : first_of (codes "program") rows ≡ None
   pub picture : first_of (codes "svg") rows ≡ None
+  pub names : first_of (codes "names") rows ≡ None
   pub no_search : IsFlag (one_of (codes "no-search") rows) false
 
 -- a look at the one file that was given, of the kind that a flag says, without an option for logs
@@ -177,7 +179,7 @@ IsCertifiedBy are_logs are_sourced first files certificate (One name) = (are_log
 IsCertifiedBy are_logs are_sourced first files certificate (Logs names) = (are_logs ≡ true) × (are_sourced ≡ false) × (certificate ≡ first) × (texts names.items ≡ files)
 IsCertifiedBy are_logs are_sourced first files certificate (Sourced names) = (are_logs ≡ true) × (are_sourced ≡ true) × (certificate ≡ first) × (texts names.items ≡ files)
 
--- a search of the trace, with the budget and the files for what it finds that were given
+-- a search of the trace, with the budget, the files for what it finds and the names for addresses that were given
 pub record IsSearch (rows : List Row) (search : Search) : Type 0 where
   pub are_logs : Bool
   pub are_sourced : Bool
@@ -188,6 +190,7 @@ pub record IsSearch (rows : List Row) (search : Search) : Type 0 where
   pub order : text_of search.order ≡ first_of (codes "order") rows
   pub refutation : text_of search.refutation ≡ first_of (codes "refutation") rows
   pub picture : text_of search.picture ≡ first_of (codes "svg") rows
+  pub names : text_of search.names ≡ first_of (codes "names") rows
 
 -- a look at the certificate and the trace that were given
 pub record IsConfirm (rows : List Row) (confirm : Confirm) : Type 0 where
@@ -265,7 +268,8 @@ IsStrayIn rows OutOfMemory = ⊤
 -- an option for logs is there
 abbrev pub HaveLogOption : List Row → Type 0
 HaveLogOption rows =
-    IsSome (first_of (codes "program") rows) ⊎ (IsSome (first_of (codes "svg") rows) ⊎ IsFlag (one_of (codes "no-search") rows) true)
+    IsSome (first_of (codes "program") rows) ⊎ (IsSome (first_of (codes "svg") rows) ⊎ (IsSome (first_of (codes "names") rows)
+    ⊎ IsFlag (one_of (codes "no-search") rows) true))
 
 -- there isn't just one file, or an option for logs is there
 abbrev pub StandNotAlone : List Row → Type 0

@@ -30,14 +30,14 @@ names_of (Sourced names) = texts names.items
 abbrev pub files_read : Request → List Text
 files_read (Check asked) = names_given (asked.program ∷ []) ++ texts asked.files.items
 files_read (Order asked) = texts asked.files.items
-files_read (Explain asked) = names_given (asked.check.program ∷ []) ++ texts asked.check.files.items
+files_read (Explain asked) = names_given (asked.check.program ∷ asked.names ∷ []) ++ texts asked.check.files.items
 files_read (Inspect asked) = asked.file.now ∷ []
 files_read (Vet asked) = asked.certificate.now ∷ names_of asked.trace
 files_read (Upgrade asked) = texts asked.files.items
 files_read (Sim asked) = names_given (asked.schedule ∷ []) ++ asked.programs.now ∷ []
 files_read (Run asked) = asked.programs.now ∷ []
 files_read (Litmus asked) = asked.test.now ∷ []
-files_read (Search asked) = names_of asked.trace
+files_read (Search asked) = names_given (asked.names ∷ []) ++ names_of asked.trace
 files_read (Confirm asked) = asked.certificate.now ∷ names_of asked.trace
 files_read (Replay asked) = asked.trace.now ∷ []
 files_read Version = []

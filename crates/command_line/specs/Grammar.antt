@@ -48,12 +48,13 @@ abbrev pub with_kinds : App → App
 with_kinds app =
     with_rule (with_rule (with_rule (with_rule app (flag (codes "litmus"))) (flag (codes "programs"))) (flag (codes "trace"))) (file_option (codes "certificate"))
 
--- [--program F] [--svg F] [--no-search] [--litmus] [--programs] [--trace] [--certificate F]
+-- [--program F] [--svg F] [--names F] [--no-search] [--litmus] [--programs] [--trace] [--certificate F]
 abbrev pub with_explain_options : App → App
 with_explain_options app =
-    with_kinds (with_rule (with_rule (with_rule app (file_option (codes "program"))) (file_option (codes "svg"))) (flag (codes "no-search")))
+    with_kinds
+    (with_rule (with_rule (with_rule (with_rule app (file_option (codes "program"))) (file_option (codes "svg"))) (file_option (codes "names"))) (flag (codes "no-search")))
 
--- tardis explain [--program F] [--svg F] [--no-search] [--litmus] [--programs] [--trace] [--certificate F] FILE..
+-- tardis explain [--program F] [--svg F] [--names F] [--no-search] [--litmus] [--programs] [--trace] [--certificate F] FILE..
 abbrev pub explain : App
 explain = with_rule (with_explain_options (new_app (codes "explain"))) files
 
@@ -113,9 +114,10 @@ with_search_outputs app = with_rule (with_rule (with_rule app (file_option (code
 abbrev pub with_log_flags : App → App
 with_log_flags app = with_rule (with_rule app (flag (codes "logs"))) (flag (codes "sources"))
 
--- tardis search [--logs] [--sources] [--budget N] [--order F] [--refutation F] [--svg F] FILE..
+-- tardis search [--logs] [--sources] [--budget N] [--order F] [--refutation F] [--svg F] [--names F] FILE..
 abbrev pub search : App
-search = with_rule (with_search_outputs (with_number (with_log_flags (new_app (codes "search"))) (codes "budget"))) files
+search =
+    with_rule (with_rule (with_search_outputs (with_number (with_log_flags (new_app (codes "search"))) (codes "budget"))) (file_option (codes "names"))) files
 
 -- tardis confirm [--logs] [--sources] TRACE FILE..
 abbrev pub confirm : App

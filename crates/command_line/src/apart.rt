@@ -42,14 +42,15 @@ fn files_read<'a>(alloc: Global, request: &Request<'a>) -> Result<Vec<&'a str>, 
         Request::Check(asked) => names_of(alloc, &[asked.program], asked.files.as_slice()),
         Request::Order(asked) => names_of(alloc, &[], asked.files.as_slice()),
         Request::Explain(asked) => {
-            names_of(alloc, &[asked.check.program], asked.check.files.as_slice())
+            let given = [asked.check.program, asked.names];
+            names_of(alloc, &given, asked.check.files.as_slice())
         }
         Request::Inspect(asked) => names_of(alloc, &[], &[asked.file]),
         Request::Upgrade(asked) => names_of(alloc, &[], asked.files.as_slice()),
         Request::Sim(asked) => names_of(alloc, &[asked.schedule], &[asked.programs]),
         Request::Run(asked) => names_of(alloc, &[], &[asked.programs]),
         Request::Litmus(asked) => names_of(alloc, &[], &[asked.test]),
-        Request::Search(asked) => names_of_trace(alloc, None, &asked.trace),
+        Request::Search(asked) => names_of_trace(alloc, asked.names, &asked.trace),
         Request::Confirm(asked) | Request::Vet(asked) => {
             names_of_trace(alloc, Some(asked.certificate), &asked.trace)
         }
@@ -86,18 +87,18 @@ fn logs_put<'a>(request: &Request<'a>) -> Option<&'a str>
     }
 }
 
-/// The names of the files of a trace, behind that of its certificate, if one is given. Err if memory was refused.
+/// The names of the files of a trace, behind that of another file, if one is given. Err if memory was refused.
 fn names_of_trace<'a>(
     alloc: Global,
-    certificate: Option<&'a str>,
+    given: Option<&'a str>,
     trace: &TraceFiles<'a>,
 ) -> Result<Vec<&'a str>, AllocError>
-    ensures { IfOk result (λ names. texts names.items ≡ files.names_given (certificate.entry ∷ []) ++ files.names_of trace.now) }
+    ensures { IfOk result (λ names. texts names.items ≡ files.names_given (given.entry ∷ []) ++ files.names_of trace.now) }
 {
     match trace {
-        TraceFiles::One(name) => names_of(alloc, &[certificate], &[*name]),
+        TraceFiles::One(name) => names_of(alloc, &[given], &[*name]),
         TraceFiles::Logs(names) | TraceFiles::Sourced(names) => {
-            names_of(alloc, &[certificate], names.as_slice())
+            names_of(alloc, &[given], names.as_slice())
         }
     }
 }

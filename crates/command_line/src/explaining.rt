@@ -80,7 +80,7 @@ fn has_log_option(matches: &ArgMatches<'_>) -> bool
     if name_of(matches, "program").is_some() || name_of(matches, "svg").is_some() {
         return true;
     }
-    flag_of(matches, "no-search")
+    name_of(matches, "names").is_some() || flag_of(matches, "no-search")
 }
 
 /// What the user reads if a file that isn't a log isn't the only one, or options stand beside it that are of logs.
@@ -101,6 +101,7 @@ fn explain_of<'a>(alloc: Global, matches: &ArgMatches<'a>) -> Result<Request<'a>
     Ok(Request::Explain(Explain {
         check,
         picture: name_of(matches, "svg"),
+        names: name_of(matches, "names"),
         no_search: flag_of(matches, "no-search"),
     }))
 }

@@ -56,6 +56,8 @@ pub struct Explain<'a> {
     pub check: Check<'a>,
     /// The name of the file that a picture goes to, if one is given.
     pub picture: Option<&'a str>,
+    /// The name of the file of the names of addresses, if one is given.
+    pub names: Option<&'a str>,
     /// Whether to leave out the search for another order of a set that gets No.
     pub no_search: bool,
 }
@@ -164,6 +166,8 @@ pub struct Search<'a> {
     pub refutation: Option<&'a str>,
     /// The name of the file that a picture of a refutation goes to, if one is given.
     pub picture: Option<&'a str>,
+    /// The name of the file of the names of addresses, if one is given.
+    pub names: Option<&'a str>,
     /// Where the trace is.
     pub trace: TraceFiles<'a>,
 }

@@ -58,6 +58,7 @@ const EXPLAIN: Subcommand<'static> = Subcommand {
             "svg",
             "The file that a picture of it goes to [default: none]",
         ),
+        Argument::File("names", NAMES_HELP),
         Argument::Flag("no-search", "After a no, don't search for another order"),
         Argument::Flag("litmus", "FILE is a litmus test, and is only read"),
         Argument::Flag("programs", "FILE is a set of programs, and is only read"),
@@ -182,6 +183,7 @@ const SEARCH: Subcommand<'static> = Subcommand {
             "svg",
             "The file that a picture of a refutation goes to [default: none]",
         ),
+        Argument::File("names", NAMES_HELP),
         Argument::Files("The trace; with --logs the logs, that of core 0 first"),
     ],
 };
@@ -245,6 +247,10 @@ const LOGS_HELP: &str = "The logs, that of core 0 first";
 
 /// What the help says of the sources of logs.
 const SOURCES_HELP: &str = "With --logs, takes the stores that loads and swaps name as given";
+
+/// What the help says of the file of the names of addresses.
+const NAMES_HELP: &str =
+    "Tells the names of F in place of addresses, of which each line has one: 8 flag [default: none]";
 
 /// What the help says of the file of the programs.
 const PROGRAMS_HELP: &str = "The file of the programs";

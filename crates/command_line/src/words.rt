@@ -146,6 +146,7 @@ fn search_of<'a>(alloc: Global, matches: &ArgMatches<'a>) -> Result<Request<'a>,
         order: name_of(matches, "order"),
         refutation: name_of(matches, "refutation"),
         picture: name_of(matches, "svg"),
+        names: name_of(matches, "names"),
         trace,
     }))
 }

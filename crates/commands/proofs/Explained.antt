@@ -1,6 +1,6 @@
 -- What explaining comes to, from what its parts answer.
 use Rattle.std.proofs.Common.{◌≡◌, ap, subst, refl, ◌+◌, ℕ, List, [], ◌∷◌, length, arith, Option, None, Some, Result, Ok, Err, vec_len, option_copied}
-use Rattle.std.specs.Prelude.{IfOk, IsErrOf, option_map}
+use Rattle.std.specs.Prelude.{IfOk, IsErrOf, MatchResult, option_map}
 use Rattle.std.specs.Borrow.{Bor}
 use Rattle.std.proofs.lemmas.Slice.Zip.{AllZip-long}
 use Rattle.core_check.specs.FaultOrder.{core_fault_cmp}
@@ -26,11 +26,14 @@ use Rattle.host_files.specs.Files.{Files, IsOnlyRead}
 use Rattle.commands.specs.LogFiles.{AreTextsOf, Spelled}
 use Rattle.commands.specs.Sinks.{Sink}
 use Rattle.commands.specs.Checking.{IsChecked}
-use Rattle.commands.specs.Explaining.{IsExplained}
+use Rattle.commands.specs.Explaining.{IsExplained, IsUnjudged}
+use Rattle.commands.specs.Naming.{IsNameless}
 use Rattle.commands.specs.inner.ReadLogs.{AreLogsOf, HoldsRecords}
 use Rattle.commands.proofs.Checks.{nowhere}
+use Rattle.commands.specs.declared.explain_files.Told.{Told}
+use Rattle.commands.specs.declared.place.Input.TheVariants as input
 use Rattle.commands.specs.declared.refusal.Refusal.{Refusal}
-use Rattle.commands.specs.declared.refusal.Refusal.TheVariants.{OutOfMemory, Unwritten}
+use Rattle.commands.specs.declared.refusal.Refusal.TheVariants.{Names, OutOfMemory, Unread, Unwritten}
 
 -- the programs that a reference leads to are those that were read
 pub given_is : (lent : Option (Bor SetParts)) (set : Option SetParts) → option_copied lent ≡ set → given lent ≡ option_map (λ s. s.programs) set
@@ -85,8 +88,31 @@ logs_examined told unread programs asked texts logs examined (against, are, (ran
 
 -- ---- no verdict to explain
 
+-- addresses have no names
+pub nameless : (told : List ℕ → Option (List ℕ)) (unread : List ℕ → Type 0) (asked : Explain) (refusal : Refusal) → IsNameless told unread asked.names refusal
+    → IsUnjudged told unread asked refusal
+nameless told unread asked (Names line) is = is
+nameless told unread asked (Unread input.Names) is = is
+nameless told unread asked OutOfMemory is = tt
+nameless told unread asked other is = absurd is
+
+-- the files get no verdict
+unjudged : (told : List ℕ → Option (List ℕ)) (unread : List ℕ → Type 0) (asked : Explain) (refusal : Refusal) → IsChecked told unread asked.check (Err refusal)
+    → IsUnjudged told unread asked refusal
+unjudged told unread asked (Names line) is = absurd (nowhere asked.check.program is.1)
+unjudged told unread asked (Unread input.Names) is = absurd (nowhere asked.check.program is.1)
+unjudged told unread asked other is = is
+
+-- the names were read first, and left the folder as it was
+pub named_first : (old middle : Files) (unread : Files → List ℕ → Type 0) (asked : Explain) (result : Result Told Refusal) → middle ≡ old
+    → MatchResult result (λ told. IsChecked middle.told (unread middle) asked.check (Ok told.verdict)) (λ fault. IsChecked middle.told (unread middle) asked.check (Err fault))
+    → MatchResult result (λ told. IsChecked old.told (unread old) asked.check (Ok told.verdict)) (λ fault. IsUnjudged old.told (unread old) asked fault)
+named_first old middle unread asked (Ok told) same is = subst (λ (f : Files). IsChecked f.told (unread f) asked.check (Ok told.verdict)) same is
+named_first old middle unread asked (Err fault) same is =
+    unjudged old.told (unread old) asked fault (subst (λ (f : Files). IsChecked f.told (unread f) asked.check (Err fault)) same is)
+
 -- nothing was printed and nothing was put
-pub untold : (old new : Files) (unread : List ℕ → Type 0) (asked : Explain) (sink : Sink) (refusal : Refusal) → IsChecked old.told unread asked.check (Err refusal)
+pub untold : (old new : Files) (unread : List ℕ → Type 0) (asked : Explain) (sink : Sink) (refusal : Refusal) → IsUnjudged old.told unread asked refusal
     → IsOnlyRead old new → IsExplained old new unread asked sink sink (Err refusal)
 untold old new unread asked sink (Unwritten place) why read = absurd (nowhere asked.check.program why.1)
 untold old new unread asked sink OutOfMemory why read = Keeps-refl sink.contents

@@ -119,6 +119,7 @@ module _ (old new : Files) (Unreadable : List ℕ → Type 0) (out out' : Sink) 
   explain_unread : (asked : Explain) (refusal : Refusal) → IsExplained old new Unreadable asked out out' (Err refusal) → IsUnreadThere Unreadable (request.Explain asked) refusal
   explain_unread asked (Judge (Read file)) is = let (programs, are, (range, unread)) = is.0 in unread
   explain_unread asked (Unread input.Programs) is = is.0.1
+  explain_unread asked (Unread input.Names) is = is.0
   explain_unread asked (Unread place) is = absurd (nowhere asked.check.program is.0.1)
   explain_unread asked other is = tt
 
@@ -281,6 +282,7 @@ module _ (old new : Files) (Unreadable : List ℕ → Type 0) (out out' : Sink) 
   search_unread : (asked : Search) (refusal : Refusal) → IsSearched old new Unreadable asked (Err refusal) → IsUnreadThere Unreadable (request.Search asked) refusal
   search_unread asked (Judge (Read file)) is = logs_unread asked.trace file is.0
   search_unread asked (Unread input.Trace) is = file_unread asked.trace is.0
+  search_unread asked (Unread input.Names) is = is.0
   search_unread asked (Unread place) is = absurd is.0
   search_unread asked other is = tt
 

@@ -11,6 +11,7 @@ use Rattle.refutation.specs.declared.answer.Answer.{Answer}
 use Rattle.refutation.specs.declared.answer.Answer.TheVariants as found
 use Rattle.refutation.proofs.Sound.{refutations-hold}
 use Rattle.telling.specs.FirstLines.{operation_count}
+use Rattle.commands.specs.Naming.{IsNameless}
 use Rattle.commands.specs.SearchAnswers.{IsRightOf, no_of}
 use Rattle.commands.specs.Searching.{AnswersBy, Finds, IsProof, IsSearched, PutsProof}
 use Rattle.commands.specs.Traces.{AreTraceless, IsTraceIn, TellsTrace}
@@ -19,7 +20,7 @@ use Rattle.commands.specs.declared.search_answer.SearchAnswer.{SearchAnswer}
 use Rattle.commands.specs.declared.place.Input.TheVariants as input
 use Rattle.commands.specs.declared.place.Output.TheVariants as output
 use Rattle.commands.specs.declared.refusal.Refusal.{Refusal}
-use Rattle.commands.specs.declared.refusal.Refusal.TheVariants.{Judge, Trace, Undecided, OutOfMemory, Unread, Unwritten}
+use Rattle.commands.specs.declared.refusal.Refusal.TheVariants.{Judge, Names, Trace, Undecided, OutOfMemory, Unread, Unwritten}
 
 -- ---- what proofs say
 
@@ -46,6 +47,14 @@ traceless old new unread asked (Unread input.Trace) is read = (is, read)
 traceless old new unread asked (Judge fault) is read = (is, read)
 traceless old new unread asked OutOfMemory is read = tt
 traceless old new unread asked other is read = absurd is
+
+-- addresses have no names
+pub nameless : (old new : Files) (unread : List ℕ → Type 0) (asked : Search) (fault : Refusal) → IsNameless old.told unread asked.names fault → IsOnlyRead old new
+    → IsSearched old new unread asked (Err fault)
+nameless old new unread asked (Names line) is read = (is, read)
+nameless old new unread asked (Unread input.Names) is read = (is, read)
+nameless old new unread asked OutOfMemory is read = tt
+nameless old new unread asked other is read = absurd is
 
 -- the search gives up, in a folder that is as it was
 pub given_up : (old new : Files) (unread : List ℕ → Type 0) (asked : Search) (cores : List (List Operation)) (fault : Refusal) → IsTraceIn old.told asked.trace cores

@@ -14,11 +14,13 @@ use Rattle.commands.specs.Checking.{IsChecked}
 use Rattle.commands.specs.OtherOrders.{TellsOther}
 use Rattle.host_files.specs.Files.{Files, IsOnlyRead}
 use Rattle.commands.specs.LogFiles.{Spelled}
+use Rattle.commands.specs.Naming.{IsNameless}
 use Rattle.commands.specs.Outputs.{FailsPutAt, PutsSuchAt}
 use Rattle.commands.specs.Sinks.{HasFailed, Sink, TakesBeginning}
+use Rattle.commands.specs.declared.place.Input.TheVariants as input
 use Rattle.commands.specs.declared.place.Output.TheVariants as output
 use Rattle.commands.specs.declared.refusal.Refusal.{Refusal}
-use Rattle.commands.specs.declared.refusal.Refusal.TheVariants.{OutOfMemory, Unwritten}
+use Rattle.commands.specs.declared.refusal.Refusal.TheVariants.{Names, OutOfMemory, Unread, Unwritten}
 
 -- the text is what is told about another order, and it is true of the set that the texts of the files spell
 abbrev pub TellsOtherOf : (List ℕ → Option (List ℕ)) → Explain → Verdict → List ℕ → Type 0
@@ -39,6 +41,12 @@ PutsPictureAt verdict old new name = (HasPicture verdict × PutsSuchAt old new n
 abbrev pub Judged : Files → (List ℕ → Type 0) → Check → (Verdict → Type 0) → Type 0
 Judged old unread asked Holds = (verdict : Verdict) × IsChecked old.told unread asked (Ok verdict) × Holds verdict
 
+-- why the files get no verdict, or addresses no names
+abbrev pub IsUnjudged : (List ℕ → Option (List ℕ)) → (List ℕ → Type 0) → Explain → Refusal → Type 0
+IsUnjudged told unread asked (Names line) = IsNameless told unread asked.names (Names line)
+IsUnjudged told unread asked (Unread input.Names) = IsNameless told unread asked.names (Unread input.Names)
+IsUnjudged told unread asked fault = IsChecked told unread asked.check (Err fault)
+
 -- The verdict on the files, or why there is none. Standard output takes the line of the verdict first. A picture is put before anything is printed.
 abbrev pub IsExplained : Files → Files → (List ℕ → Type 0) → Explain → Sink → Sink → Result Verdict Refusal → Type 0
 IsExplained old new unread asked out out' (Ok verdict) =
@@ -51,4 +59,4 @@ IsExplained old new unread asked out out' (Err (Unwritten output.Picture)) =
     Judged old unread asked.check (λ verdict. HasPicture verdict × FailsPutAt old new asked.picture) × Keeps out.contents out'.contents
 IsExplained old new unread asked out out' (Err OutOfMemory) = Keeps out.contents out'.contents
 IsExplained old new unread asked out out' (Err fault) =
-    IsChecked old.told unread asked.check (Err fault) × IsOnlyRead old new × Keeps out.contents out'.contents
+    IsUnjudged old.told unread asked fault × IsOnlyRead old new × Keeps out.contents out'.contents

@@ -6,6 +6,7 @@ pub mod Inspecting
 pub mod Leaving
 pub mod LogFiles
 pub mod Logs
+pub mod Naming
 pub mod Numbers
 pub mod OrderTexts
 pub mod Ordering

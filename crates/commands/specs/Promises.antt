@@ -137,6 +137,7 @@ trace_logs (Sourced names) = names.items
 abbrev pub file_at : Request → Input → Option (Bor (List ℕ))
 file_at (Check asked) input.Programs = asked.program
 file_at (Explain asked) input.Programs = asked.check.program
+file_at (Explain asked) input.Names = asked.names
 file_at (Inspect asked) input.Programs = Some asked.file
 file_at (Inspect asked) input.Test = Some asked.file
 file_at (Inspect asked) input.Trace = Some asked.file
@@ -147,6 +148,7 @@ file_at (Sim asked) input.Schedule = asked.schedule
 file_at (Run asked) input.Programs = Some asked.programs
 file_at (Litmus asked) input.Test = Some asked.test
 file_at (Search asked) input.Trace = trace_file asked.trace
+file_at (Search asked) input.Names = asked.names
 file_at (Confirm asked) input.Trace = trace_file asked.trace
 file_at (Confirm asked) input.Certificate = Some asked.certificate
 file_at (Replay asked) input.Trace = Some asked.trace

@@ -21,6 +21,8 @@ use Rattle.machine.specs.Faults.{fault_text as run_fault_text}
 use Rattle.merge_judge.specs.declared.merge_fault.MergeFault.{MergeFault}
 use Rattle.merge_judge.specs.declared.merge_fault.MergeFault.TheVariants as merge
 use Rattle.refutation.specs.FaultTexts.{fault_text as certificate_fault_text}
+use Rattle.refuted_cases.specs.declared.names.NamesFault.{NamesFault}
+use Rattle.refuted_cases.specs.declared.names.NamesFault.TheVariants as names
 use Rattle.simulation.specs.ScheduleFaultTexts.{fault_text as schedule_fault_text}
 use Rattle.simulation.specs.declared.schedule_fault.ScheduleFault.{ScheduleFault}
 use Rattle.simulation.specs.declared.schedule_fault.ScheduleFault.TheVariants as schedule
@@ -36,7 +38,7 @@ use Rattle.commands.specs.declared.place.Input.TheVariants as input
 use Rattle.commands.specs.declared.place.Output.{Output}
 use Rattle.commands.specs.declared.place.Output.TheVariants as output
 use Rattle.commands.specs.declared.refusal.Refusal.{Refusal}
-use Rattle.commands.specs.declared.refusal.Refusal.TheVariants.{Judge, Programs, Schedule, Test, Trace, Certificate, Config, Simulation, Run, Collect, Undecided, Unread, Unwritten, LogUnwritten, OutOfMemory}
+use Rattle.commands.specs.declared.refusal.Refusal.TheVariants.{Judge, Programs, Schedule, Test, Trace, Certificate, Names, Config, Simulation, Run, Collect, Undecided, Unread, Unwritten, LogUnwritten, OutOfMemory}
 
 -- ---- the faults of the library, as refusals
 
@@ -55,6 +57,10 @@ from_program fault = Programs fault
 abbrev pub from_trace : TraceFault → Refusal
 from_trace trace.OutOfMemory = OutOfMemory
 from_trace fault = Trace fault
+
+abbrev pub from_names : NamesFault → Refusal
+from_names (names.BadLine line) = Names line
+from_names names.OutOfMemory = OutOfMemory
 
 abbrev pub from_schedule : ScheduleFault → Refusal
 from_schedule schedule.OutOfMemory = OutOfMemory
@@ -80,6 +86,7 @@ input_text input.Schedule = codes "schedule"
 input_text input.Test = codes "litmus"
 input_text input.Trace = codes "trace"
 input_text input.Certificate = codes "certificate"
+input_text input.Names = codes "names"
 
 abbrev pub output_text : Output → List ℕ
 output_text output.Standard = codes "output"
@@ -105,6 +112,7 @@ refusal_text (Schedule fault) = codes "refused: schedule " ++ schedule_fault_tex
 refusal_text (Test fault) = codes "refused: litmus " ++ test_fault_text fault
 refusal_text (Trace fault) = codes "refused: trace " ++ trace_fault_text fault
 refusal_text (Certificate fault) = codes "refused: certificate " ++ certificate_fault_text fault
+refusal_text (Names line) = codes "refused: names line " ++ (decimal line ++ (codes ": " ++ name_text named.BadLine))
 refusal_text (Config fault) = codes "refused: " ++ config_fault_text fault
 refusal_text (Simulation fault) = codes "refused: " ++ simulation_fault_text fault
 refusal_text (Run fault) = codes "refused: " ++ run_fault_text fault.core fault.cause
@@ -139,6 +147,7 @@ refusal_status (Schedule fault) = 2
 refusal_status (Test fault) = 2
 refusal_status (Trace fault) = 2
 refusal_status (Certificate fault) = 2
+refusal_status (Names line) = 2
 refusal_status (Config fault) = 3
 refusal_status (Collect fault) = collect_fault_status fault
 refusal_status other = 4

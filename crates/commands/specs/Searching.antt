@@ -13,13 +13,15 @@ use Rattle.refutation.specs.declared.answer.Answer.TheVariants as found
 use Rattle.refutation.specs.declared.step.Step.{Step}
 use Rattle.pictures.specs.Pictures.{IsPicture}
 use Rattle.telling.specs.FirstLines.{operation_count}
+use Rattle.commands.specs.Naming.{IsNameless}
 use Rattle.commands.specs.SearchAnswers.{no_of}
 use Rattle.commands.specs.Traces.{AreTraceless, TellsTrace}
 use Rattle.commands.specs.declared.search_answer.SearchAnswer.{SearchAnswer}
 use Rattle.commands.specs.declared.search_answer.SearchAnswer.TheVariants.{Yes}
+use Rattle.commands.specs.declared.place.Input.TheVariants as input
 use Rattle.commands.specs.declared.place.Output.TheVariants as output
 use Rattle.commands.specs.declared.refusal.Refusal.{Refusal}
-use Rattle.commands.specs.declared.refusal.Refusal.TheVariants.{Undecided, OutOfMemory, Unwritten}
+use Rattle.commands.specs.declared.refusal.Refusal.TheVariants.{Names, Undecided, OutOfMemory, Unread, Unwritten}
 
 -- how many steps a search may make: 100,000,000 if no number is given
 abbrev pub budget_or_default : Option ℕ → ℕ
@@ -77,4 +79,6 @@ IsSearched old new unread asked (Err (Unwritten output.Refutation)) =
     TellsTrace old.told asked.trace (λ cores. ¬ (IsConsistent cores)) × FailsPutAt old new asked.refutation
 IsSearched old new unread asked (Err (Unwritten output.Picture)) = TellsTrace old.told asked.trace (FailsPicture old new asked)
 IsSearched old new unread asked (Err OutOfMemory) = ⊤
+IsSearched old new unread asked (Err (Names line)) = IsNameless old.told unread asked.names (Names line) × IsOnlyRead old new
+IsSearched old new unread asked (Err (Unread input.Names)) = IsNameless old.told unread asked.names (Unread input.Names) × IsOnlyRead old new
 IsSearched old new unread asked (Err fault) = AreTraceless old.told unread asked.trace fault × IsOnlyRead old new

@@ -10,6 +10,7 @@ ghost use Rattle.verdict.specs.Texts.{verdict_text};
 ghost use Rattle.commands.specs.Checking as checking;
 ghost use Rattle.commands.specs.Explaining as explaining;
 ghost use Rattle.host_files.specs.Files.{IsOnlyRead, IsUnread, KeepsFiles};
+ghost use Rattle.commands.specs.Naming.{HasNames};
 ghost use Rattle.commands.specs.Outputs.{FailsPutAt, IsNameOf};
 ghost use Rattle.commands.specs.Sinks.{line, sink_of};
 
@@ -18,12 +19,14 @@ use super::other_order::other_order;
 use super::place::Output;
 use super::putting::put_under;
 use super::refusal::Refusal;
+use super::text::read_names;
 use command_line::Explain;
 use core_program::ProgramSet;
 use explain::{Explanation, explain as explained};
 use host_files::Folder;
 use log_file::{ByteSink, write_all};
 use pictures::draw_explanation;
+use refuted_cases::Names;
 use search::SearchWatch;
 use std::alloc::{AllocError, Global};
 use std::thread::Threads;
@@ -43,8 +46,8 @@ struct Told {
 }
 
 /// Judges the logs in files of the folder as `check` does, puts a picture of why where one is asked for, and prints the
-/// verdict's line and what there is to tell of it. The verdict, or why there is none; 29 of the picture or of standard output. A watch
-/// is told how far the search for another order is.
+/// verdict's line and what there is to tell of it, with names in place of addresses where a file gives some. The verdict, or why there
+/// is none: the names are read first; 29 of the picture or of standard output. A watch is told how far the search for another order is.
 pub(crate) fn explain<R: Threads + Sync, W: SearchWatch, F: Folder, O: ByteSink>(
     rt: &R,
     alloc: Global,
@@ -58,6 +61,7 @@ pub(crate) fn explain<R: Threads + Sync, W: SearchWatch, F: Folder, O: ByteSink>
         (sink_of O.contents O.failed out.old) (sink_of O.contents O.failed out.new) result }
     ensures files { KeepsFiles (F.files folder.old).told (F.files folder.new).told
         (IsNameOf asked.now.picture) }
+    ensures named { IfOk result (λ _. HasNames (F.files folder.old).told asked.now.names) }
 {
     let told = tell(rt, alloc, watch, folder, asked)?;
     put_picture(folder, asked.picture, &told)?;
@@ -84,13 +88,39 @@ fn put_picture<F: Folder>(folder: &mut F, name: Option<&str>, told: &Told) -> Re
     }
 }
 
-/// What there is to tell of the logs in files of the folder, or why there is no verdict.
+/// What there is to tell of the logs in files of the folder, or why there is no verdict or no name.
 fn tell<R: Threads + Sync, W: SearchWatch, F: Folder>(
     rt: &R,
     alloc: Global,
     watch: &W,
     folder: &mut F,
     asked: &Explain<'_>,
+) -> Result<Told, Refusal>
+    ensures exact { MatchResult result
+        (λ told. checking.IsChecked (F.files folder.old).told
+        (IsUnread F.Source.remaining F.Source.failed (F.files folder.old) (F.files folder.new)) asked.now.check (Ok told.verdict))
+        (λ fault. explaining.IsUnjudged (F.files folder.old).told
+        (IsUnread F.Source.remaining F.Source.failed (F.files folder.old) (F.files folder.new)) asked.now fault) }
+    ensures named { IfOk result (λ _. HasNames (F.files folder.old).told asked.now.names) }
+    ensures quiet { OnOk result (F.files folder.new ≡ F.files folder.old) }
+    ensures read { IsOnlyRead (F.files folder.old) (F.files folder.new) }
+    ensures text { IfOk result (λ told. explaining.TellsVerdict (F.files folder.old).told asked.now
+        told.verdict (string_bytes told.text)) }
+    ensures picture { IfOk result (λ told. IfSome told.picture (λ svg. IsPicture (string_bytes svg))) }
+    ensures drawn { IsSome asked.now.picture → IfOk result (λ told. IsSome told.picture ↔ HasPicture told.verdict) }
+{
+    let names = read_names(alloc, folder, asked.names)?;
+    tell_named(rt, alloc, watch, folder, asked, &names)
+}
+
+/// The same with these names.
+fn tell_named<R: Threads + Sync, W: SearchWatch, F: Folder>(
+    rt: &R,
+    alloc: Global,
+    watch: &W,
+    folder: &mut F,
+    asked: &Explain<'_>,
+    names: &Names,
 ) -> Result<Told, Refusal>
     ensures exact { MatchResult result
         (λ told. checking.IsChecked (F.files folder.old).told
@@ -108,6 +138,7 @@ fn tell<R: Threads + Sync, W: SearchWatch, F: Folder>(
     let last = other_order(
         alloc,
         watch,
+        names,
         &found.examined,
         asked.check.files.len(),
         asked.no_search,
@@ -116,21 +147,21 @@ fn tell<R: Threads + Sync, W: SearchWatch, F: Folder>(
         alloc,
         &found.examined,
         found.programs.as_ref(),
-        asked.check.files.as_slice(),
-        asked.picture.is_some(),
+        asked,
+        names,
         last.as_str(),
     )?;
     Ok(told)
 }
 
-/// The text of a verdict on the logs of these names and of what there is to tell of it, with its last lines, and a picture where it is to
-/// be drawn and can be.
+/// The text of a verdict on the logs that were asked about and of what there is to tell of it, with its last lines, and a picture where it
+/// is to be drawn and can be.
 fn words(
     alloc: Global,
     examined: &Examined,
     programs: Option<&ProgramSet>,
-    names: &[&str],
-    is_drawn: bool,
+    asked: &Explain<'_>,
+    names: &Names,
     last: &str,
 ) -> Result<Told, AllocError>
     requires { (logs : List (List Record)) × IsExaminationOf (given programs) logs examined.now }
@@ -138,12 +169,13 @@ fn words(
     ensures text { IfOk result (λ told. (why : List ℕ)
         × (string_bytes told.text ≡ line (verdict_text told.verdict) ++ (why ++ last.now))) }
     ensures picture { IfOk result (λ told. IfSome told.picture (λ svg. IsPicture (string_bytes svg))) }
-    ensures drawn { IsTrue is_drawn → IfOk result (λ told. IsSome told.picture ↔ HasPicture told.verdict) }
+    ensures drawn { IsSome asked.now.picture → IfOk result (λ told. IsSome told.picture ↔ HasPicture told.verdict) }
 {
-    let verdict = examined.verdict;
-    let why = reason(alloc, examined, programs, names.len())?;
-    let picture = picture_of(alloc, &verdict, &why, is_drawn)?;
-    let more = more_text(alloc, names, &why, is_drawn && picture.is_none())?;
+    let (verdict, files) = (examined.verdict, asked.check.files.as_slice());
+    let is_drawn = asked.picture.is_some();
+    let why = reason(alloc, examined, programs, files.len())?;
+    let picture = picture_of(alloc, names, &verdict, &why, is_drawn)?;
+    let more = more_text(alloc, files, names, &why, is_drawn && picture.is_none())?;
     let text = text_of(alloc, &verdict, more.as_str(), last)?;
     Ok(Told {
         verdict,
@@ -171,6 +203,7 @@ fn reason(
 /// The picture of why a verdict is so, if it is to be drawn and can be.
 fn picture_of(
     alloc: Global,
+    names: &Names,
     verdict: &Verdict,
     why: &Explanation,
     is_drawn: bool,
@@ -182,18 +215,19 @@ fn picture_of(
         return Ok(None);
     }
     let line = format!(in alloc; "{verdict}")?;
-    let sentence = first_sentence(alloc, why)?;
-    draw_explanation(alloc, line.as_str(), sentence.as_str(), why)
+    let sentence = first_sentence(alloc, names, why)?;
+    draw_explanation(alloc, names, line.as_str(), sentence.as_str(), why)
 }
 
 /// What there is to tell after the line of a verdict, and whether a picture that was asked for is left out.
 fn more_text(
     alloc: Global,
-    names: &[&str],
+    files: &[&str],
+    names: &Names,
     why: &Explanation,
     is_left_out: bool,
 ) -> Result<String, AllocError> {
-    let mut text = print(alloc, names, why)?;
+    let mut text = print(alloc, files, names, why)?;
     if is_left_out {
         text.push_str(NO_PICTURE)?;
     }

@@ -9,7 +9,7 @@ use super::place::Input;
 use super::refusal::Refusal;
 use super::refusal_telling::tell_refusal;
 use super::refused_file::{RefusedCertificate, RefusedFile, RefusedLog, TextFault};
-use command_line::{Check, Confirm, Request, TraceFiles};
+use command_line::{Confirm, Explain, Request, TraceFiles};
 use host_files::Folder;
 use log_file::ByteSink;
 use refutation::CertificateFault;
@@ -39,7 +39,7 @@ fn refused_file<'a>(request: &'a Request<'a>, refusal: &Refusal) -> Option<Refus
     ensures { IsSome result → IsToldMore request.now }
 {
     match request {
-        Request::Explain(asked) => refused_of_logs(&asked.check, refusal),
+        Request::Explain(asked) => refused_of_logs(asked, refusal),
         Request::Inspect(asked) => refused_of_look(asked.file, refusal),
         Request::Vet(asked) => refused_of_vet(asked, refusal),
         _ => None,
@@ -47,8 +47,8 @@ fn refused_file<'a>(request: &'a Request<'a>, refusal: &Refusal) -> Option<Refus
 }
 
 /// The file for which these logs aren't explained.
-fn refused_of_logs<'a>(asked: &'a Check<'a>, refusal: &Refusal) -> Option<RefusedFile<'a>> {
-    let files = asked.files.as_slice();
+fn refused_of_logs<'a>(asked: &'a Explain<'a>, refusal: &Refusal) -> Option<RefusedFile<'a>> {
+    let files = asked.check.files.as_slice();
     match refusal {
         Refusal::Judge(JudgeFault::Log { file, line, fault }) => {
             let log = RefusedLog {
@@ -61,7 +61,9 @@ fn refused_of_logs<'a>(asked: &'a Check<'a>, refusal: &Refusal) -> Option<Refuse
         }
         Refusal::Judge(JudgeFault::Read { file }) => Some(RefusedFile::Unread(*files.get(*file)?)),
         Refusal::Judge(JudgeFault::BadConfig(count)) => Some(RefusedFile::Count(*count)),
-        _ => refused_of_look(asked.program?, refusal),
+        Refusal::Names { line } => Some(RefusedFile::Text(asked.names?, TextFault::Names(*line))),
+        Refusal::Unread(Input::Names) => Some(RefusedFile::Unread(asked.names?)),
+        _ => refused_of_look(asked.check.program?, refusal),
     }
 }
 

@@ -12,6 +12,7 @@ use super::basis_logs::{logs_of, records_in};
 use super::log_files::trace_of;
 use super::sources::sourced_trace;
 use refutation::Answer;
+use refuted_cases::Names;
 use search::{SearchWatch, search_watched};
 use std::alloc::{AllocError, Global};
 use telling::push_argument;
@@ -52,6 +53,7 @@ const UNSEARCHED: &str =
 pub(crate) fn other_order<W: SearchWatch>(
     alloc: Global,
     watch: &W,
+    names: &Names,
     examined: &Examined,
     cores: usize,
     is_declined: bool,
@@ -66,7 +68,7 @@ pub(crate) fn other_order<W: SearchWatch>(
     if records_in(&examined.basis) > MOST_SEARCHED {
         return String::from_str(alloc, UNSEARCHED);
     }
-    whether_another(alloc, watch, &examined.basis, cores)
+    whether_another(alloc, watch, names, &examined.basis, cores)
 }
 
 /// Whether it is by its order that a set got No, which another order may mend.
@@ -83,6 +85,7 @@ fn is_wrong_by_its_order(verdict: &Verdict) -> bool
 fn whether_another<W: SearchWatch>(
     alloc: Global,
     watch: &W,
+    names: &Names,
     basis: &Basis,
     cores: usize,
 ) -> Result<String, AllocError>
@@ -93,13 +96,14 @@ fn whether_another<W: SearchWatch>(
     let logs = logs_of(alloc, basis, cores)?;
     let sourced = sourced_trace(alloc, logs.as_slice())?;
     let trace = trace_of(alloc, logs.as_slice())?;
-    whether_by_sources(alloc, watch, &sourced, &trace)
+    whether_by_sources(alloc, watch, names, &sourced, &trace)
 }
 
 /// Whether some order of a trace explains all values; one of the trace with sources in place of words is looked for first.
 fn whether_by_sources<W: SearchWatch>(
     alloc: Global,
     watch: &W,
+    names: &Names,
     sourced: &Trace,
     trace: &Trace,
 ) -> Result<String, AllocError>
@@ -107,8 +111,8 @@ fn whether_by_sources<W: SearchWatch>(
 {
     match searched(alloc, watch, sourced)? {
         Answer::Order(_) => String::from_str(alloc, BY_SOURCES),
-        Answer::Refutation(_) => whether_any(alloc, watch, trace, BY_OTHERS),
-        Answer::Undecided => whether_any(alloc, watch, trace, ANOTHER),
+        Answer::Refutation(_) => whether_any(alloc, watch, names, trace, BY_OTHERS),
+        Answer::Undecided => whether_any(alloc, watch, names, trace, ANOTHER),
     }
 }
 
@@ -123,6 +127,7 @@ fn searched<W: SearchWatch>(alloc: Global, watch: &W, trace: &Trace) -> Result<A
 fn whether_any<W: SearchWatch>(
     alloc: Global,
     watch: &W,
+    names: &Names,
     trace: &Trace,
     another: &str,
 ) -> Result<String, AllocError>
@@ -133,7 +138,7 @@ fn whether_any<W: SearchWatch>(
         Answer::Undecided => String::from_str(alloc, UNDECIDED),
         Answer::Refutation(refutation) => {
             let mut text = String::from_str(alloc, NONE)?;
-            push_argument(&mut text, alloc, trace, &refutation)?;
+            push_argument(&mut text, alloc, names, trace, &refutation)?;
             Ok(text)
         }
     }

@@ -12,6 +12,8 @@ pub enum Input {
     Test,
     Trace,
     Certificate,
+    /// The names of addresses.
+    Names,
 }
 
 /// What a call writes.
@@ -40,6 +42,7 @@ impl Input {
             Input::Test => "litmus",
             Input::Trace => "trace",
             Input::Certificate => "certificate",
+            Input::Names => "names",
         }
     }
 }

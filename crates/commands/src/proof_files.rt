@@ -18,15 +18,17 @@ use mem_op::OpId;
 use merge_judge::print_order;
 use pictures::draw_refutation;
 use refutation::{Answer, Refutation};
+use refuted_cases::Names;
 use std::alloc::Global;
 use telling::tell;
 use trace::Trace;
 
-/// Puts an order or a refutation where that was asked for, with the picture of one drawn by this trace: 29 if the put fails.
+/// Puts an order or a refutation where that was asked for, with the picture of one drawn by this trace and these names: 29 if the put fails.
 pub(crate) fn put_proof<F: Folder>(
     alloc: Global,
     folder: &mut F,
     asked: &Search<'_>,
+    names: &Names,
     trace: &Trace,
     proof: &Answer,
 ) -> Result<(), Refusal>
@@ -36,7 +38,7 @@ pub(crate) fn put_proof<F: Folder>(
 {
     match proof {
         Answer::Order(order) => put_order(alloc, folder, asked.order, order),
-        Answer::Refutation(refutation) => put_both(alloc, folder, asked, trace, refutation),
+        Answer::Refutation(refutation) => put_both(alloc, folder, asked, names, trace, refutation),
         Answer::Undecided => Err(Refusal::Undecided),
     }
 }
@@ -64,6 +66,7 @@ fn put_both<F: Folder>(
     alloc: Global,
     folder: &mut F,
     asked: &Search<'_>,
+    names: &Names,
     trace: &Trace,
     refutation: &Refutation,
 ) -> Result<(), Refusal>
@@ -72,7 +75,7 @@ fn put_both<F: Folder>(
     ensures files { KeepsFiles (F.files folder.old).told (F.files folder.new).told (IsOutputName asked.now) }
 {
     put_refutation(alloc, folder, asked.refutation, refutation)?;
-    match put_picture(alloc, folder, asked.picture, trace, refutation) {
+    match put_picture(alloc, folder, asked.picture, names, trace, refutation) {
         Ok(()) => Ok(()),
         Err(fault) => Err(fault),
     }
@@ -83,6 +86,7 @@ fn put_picture<F: Folder>(
     alloc: Global,
     folder: &mut F,
     name: Option<&str>,
+    names: &Names,
     trace: &Trace,
     refutation: &Refutation,
 ) -> Result<(), Refusal>
@@ -93,8 +97,8 @@ fn put_picture<F: Folder>(
     let Some(name) = name else {
         return Ok(());
     };
-    let words = tell(alloc, trace, refutation)?;
-    let picture = draw_refutation(alloc, words.as_str(), trace, refutation)?;
+    let words = tell(alloc, names, trace, refutation)?;
+    let picture = draw_refutation(alloc, words.as_str(), names, trace, refutation)?;
     put_under(folder, Some(name), picture.as_bytes(), Output::Picture)
 }
 

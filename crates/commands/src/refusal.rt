@@ -14,6 +14,7 @@ use machine::ThreadsFault;
 use mem_op::FaultName;
 use merge_judge::MergeFault;
 use refutation::CertificateFault;
+use refuted_cases::NamesFault;
 use simulation::{ScheduleFault, SimulationFault};
 use std::alloc::AllocError;
 use std::fmt;
@@ -36,6 +37,8 @@ pub enum Refusal {
     Trace(TraceFault),
     /// The certificate doesn't hold.
     Certificate(CertificateFault),
+    /// This line of the names of addresses, counted from 1, is the first that isn't as it should be.
+    Names { line: u64 },
     /// A number of the configuration is out of its range.
     Config(BadConfig),
     /// The simulation isn't ended.
@@ -72,6 +75,7 @@ impl Refusal {
             Refusal::Judge(JudgeFault::Log { .. }) | Refusal::Programs(_) | Refusal::Schedule(_) =>
                 2,
             Refusal::Test(_) | Refusal::Trace(_) | Refusal::Certificate(_) => 2,
+            Refusal::Names { .. } => 2,
             Refusal::Judge(JudgeFault::BadConfig(_)) | Refusal::Config(_) => 3,
             Refusal::Collect(CollectFault::BadRuns) => 3,
             Refusal::Judge(_) | Refusal::Collect(_) | Refusal::Simulation(_) | Refusal::Run(_) => 4,
@@ -95,6 +99,9 @@ impl Display for Refusal {
             Refusal::Test(fault) => write!(f, "refused: litmus {fault}"),
             Refusal::Trace(fault) => write!(f, "refused: trace {fault}"),
             Refusal::Certificate(fault) => write!(f, "refused: certificate {fault}"),
+            Refusal::Names { line } => {
+                write!(f, "refused: names line {line}: {}", FaultName::BadLine)
+            }
             Refusal::Config(fault) => write!(f, "refused: {fault}"),
             Refusal::Simulation(fault) => write!(f, "refused: {fault}"),
             Refusal::Run(fault) => write!(f, "refused: {fault}"),
@@ -158,6 +165,17 @@ impl From<TraceFault> for Refusal {
         match fault {
             TraceFault::OutOfMemory => Refusal::OutOfMemory,
             fault => Refusal::Trace(fault),
+        }
+    }
+}
+
+impl From<NamesFault> for Refusal {
+    ghost from_gives = { λ fault refusal. refusal ≡ refusals.from_names fault };
+
+    fn from(fault: NamesFault) -> Refusal {
+        match fault {
+            NamesFault::BadLine { line } => Refusal::Names { line },
+            NamesFault::OutOfMemory => Refusal::OutOfMemory,
         }
     }
 }

@@ -110,6 +110,7 @@ fn place_of(fault: TextFault<'_>) -> Option<(u64, Refused<'static>)> {
         TextFault::Trace(TraceFault::BadTraceLine { line }) => Some((line, Refused::BadTraceLine)),
         TextFault::Trace(TraceFault::TooMany { line }) => Some((line, Refused::TooMany)),
         TextFault::Trace(TraceFault::OutOfMemory) => None,
+        TextFault::Names(line) => Some((line, Refused::BadNamesLine)),
     }
 }
 

@@ -14,6 +14,7 @@ use litmus::{Litmus, LitmusFault};
 use log_file::{FormatFault, LogFault, LogReader};
 use mem_op::CoreId;
 use refutation::CertificateFault;
+use refuted_cases::{Names, NamesFault};
 use std::alloc::Global;
 use trace::{Trace, TraceFault};
 use verdict::Count;
@@ -42,6 +43,8 @@ pub(crate) enum TextFault<'a> {
     Programs(ProgramFault),
     /// A trace.
     Trace(TraceFault),
+    /// The names of addresses, at this line.
+    Names(u64),
 }
 
 /// A log that was refused.
@@ -94,6 +97,9 @@ fn has_fault(alloc: Global, text: &[u8], fault: &TextFault<'_>) -> bool {
         TextFault::Test(fault) => Litmus::parse(alloc, text).err() == Some(*fault),
         TextFault::Programs(fault) => ProgramSet::parse(alloc, text).err() == Some(*fault),
         TextFault::Trace(fault) => Trace::parse(alloc, text).err() == Some(*fault),
+        TextFault::Names(line) => {
+            Names::parse(alloc, text).err() == Some(NamesFault::BadLine { line: *line })
+        }
     }
 }
 

@@ -3,6 +3,7 @@
 ghost use Rattle.std.specs.Prelude.{◌≡◌, IfErr, IfOk, OnOk};
 ghost use Rattle.log_file.specs.Devices.{Tells};
 ghost use Rattle.host_files.specs.Files.{IsOnlyRead, IsUnread};
+ghost use Rattle.commands.specs.Naming.{HasNames, IsNameless};
 ghost use Rattle.commands.specs.Programs.{AreProgramsIn, IsUnprogrammed};
 ghost use Rattle.commands.specs.inner.Texts.{IsNoText};
 
@@ -11,6 +12,7 @@ use super::refusal::Refusal;
 use core_program::ProgramSet;
 use host_files::Folder;
 use log_file::{ReadFault, read_all};
+use refuted_cases::Names;
 use std::alloc::Global;
 
 /// The text of a file of the folder: 28 if it can't be opened or read, and 10 if a growth was refused.
@@ -47,4 +49,28 @@ pub(crate) fn read_programs<F: Folder>(
         Err(ReadFault::OutOfMemory) => return Err(Refusal::OutOfMemory),
     };
     Ok(ProgramSet::parse(alloc, text.as_slice())?)
+}
+
+/// The names of addresses in a file of the folder, if one is given, and else none: 28 if it can't be opened or read, 10 if a growth
+/// was refused, and else the first line that isn't as it should be.
+pub(crate) fn read_names<F: Folder>(
+    alloc: Global,
+    folder: &mut F,
+    name: Option<&str>,
+) -> Result<Names, Refusal>
+    ensures ok { OnOk result (HasNames (F.files folder.old).told name.entry) }
+    ensures err { IfErr result (IsNameless (F.files folder.old).told
+        (IsUnread F.Source.remaining F.Source.failed (F.files folder.old) (F.files folder.new)) name.entry) }
+    ensures quiet { OnOk result (F.files folder.new ≡ F.files folder.old) }
+    ensures read { IsOnlyRead (F.files folder.old) (F.files folder.new) }
+{
+    let Some(name) = name else {
+        return Ok(Names::none(alloc));
+    };
+    let text = match read_text(alloc, folder, name) {
+        Ok(text) => text,
+        Err(ReadFault::Read) => return Err(Refusal::Unread(Input::Names)),
+        Err(ReadFault::OutOfMemory) => return Err(Refusal::OutOfMemory),
+    };
+    Ok(Names::parse(alloc, text.as_slice())?)
 }

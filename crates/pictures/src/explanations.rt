@@ -11,14 +11,17 @@ use core_program::print_instruction;
 use explain::{Departure, Explanation, WrongRead, named_id, place_of};
 use log_record::{Act, Entry};
 use mem_op::OpId;
+use refuted_cases::Names;
 use std::alloc::{AllocError, Global};
+use std::fmt;
 use verdict::Rule;
 
 /// The picture of an explanation, in SVG: a title and a sentence, a column for each core with its operations downward in the
 /// order of their keys, an arrow from each to the loads and swaps that name it, and a legend. None if there is too much to
-/// draw. Err if memory was refused.
+/// draw. Names stand in place of the addresses that have some. Err if memory was refused.
 pub fn draw_explanation(
     alloc: Global,
+    names: &Names,
     title: &str,
     sentence: &str,
     explanation: &Explanation,
@@ -35,17 +38,22 @@ pub fn draw_explanation(
         title,
         words: sentence,
         caption,
-        cards: cards(alloc, &shown, explanation)?,
+        cards: cards(alloc, names, &shown, explanation)?,
         arrows: arrows(alloc, &shown, explanation)?,
     };
     Ok(Some(paint(alloc, &scene)?))
 }
 
 /// The boxes of what is shown, and below them the box of what was due.
-fn cards(alloc: Global, shown: &Shown, why: &Explanation) -> Result<Vec<Card>, AllocError> {
+fn cards(
+    alloc: Global,
+    names: &Names,
+    shown: &Shown,
+    why: &Explanation,
+) -> Result<Vec<Card>, AllocError> {
     let mut cards = Vec::new(alloc);
     for row in &shown.rows {
-        cards.push(card_of(alloc, row, shown.faulty)?)?;
+        cards.push(card_of(alloc, names, row, shown.faulty)?)?;
     }
     if let Explanation::Program(departure) = why {
         cards.push(card_due(alloc, departure)?)?;
@@ -73,11 +81,33 @@ fn card_due(alloc: Global, departure: &Departure) -> Result<Card, AllocError> {
     })
 }
 
+/// The line of a record, with the name of its address in place of that, if it has one.
+#[derive(Clone, Copy)]
+struct Line<'a>(&'a Names, &'a Entry, &'a str);
+
+impl<'a> fmt::Display for Line<'a> {
+    fn fmt<W: fmt::Write>(&self, f: &mut fmt::Formatter<W>) -> fmt::Result {
+        if let Some(name) = self.0.name_of(self.1.addr().get())
+            && let Some((act, fields)) = self.2.split_once(' ')
+            && let Some((_, others)) = fields.split_once(' ')
+        {
+            return write!(f, "{act} {name} {others}");
+        }
+        f.write_str(self.2)
+    }
+}
+
 /// The box of an operation, with its stamp and rank beside it.
-fn card_of(alloc: Global, row: &Entry, faulty: Option<OpId>) -> Result<Card, AllocError> {
+fn card_of(
+    alloc: Global,
+    names: &Names,
+    row: &Entry,
+    faulty: Option<OpId>,
+) -> Result<Card, AllocError> {
     let (id, key) = (row.id(), row.key());
     let is_wrong = faulty == Some(id);
-    let text = format!(in alloc; "{id}: {}", row.logged())?;
+    let line = format!(in alloc; "{}", row.logged())?;
+    let text = format!(in alloc; "{id}: {}", Line(names, row, line.as_str()))?;
     Ok(Card {
         core: id.core,
         kind: match &row.act() {

@@ -9,16 +9,18 @@ use super::painting::paint;
 use super::scene::{Arrow, Card, Kind, Scene};
 use mem_op::{CoreId, OpId};
 use refutation::{Point, Refutation, Step};
-use refuted_cases::{Course, Givers, Stand, Walk, closes, round, stands};
+use refuted_cases::{Course, Givers, Names, Stand, Walk, closes, round, stands};
 use std::alloc::{AllocError, Global};
 use std::fmt;
-use trace::{Access, Trace};
+use trace::{Access, Address, Trace};
 
 /// The picture of a refutation of a trace, in SVG, with these words: a column for each core with those of its operations, downward, on which the
-/// first case rests, and an arrow for each reason why one comes before another. The arrows that go round are red. Err if memory was refused.
+/// first case rests, and an arrow for each reason why one comes before another. The arrows that go round are red. Names
+/// stand in place of the addresses that have some. Err if memory was refused.
 pub fn draw_refutation(
     alloc: Global,
     words: &str,
+    names: &Names,
     trace: &Trace,
     refutation: &Refutation,
 ) -> Result<String, AllocError>
@@ -40,11 +42,11 @@ pub fn draw_refutation(
         steps,
         last,
     };
-    draw(words, trace, &case)
+    draw(words, names, trace, &case)
 }
 
 /// The picture of a case.
-fn draw(words: &str, trace: &Trace, case: &Case<'_>) -> Result<String, AllocError>
+fn draw(words: &str, names: &Names, trace: &Trace, case: &Case<'_>) -> Result<String, AllocError>
     ensures { IfOk result (λ svg. IsPicture (string_bytes svg)) }
 {
     let shown = match case.last {
@@ -55,7 +57,7 @@ fn draw(words: &str, trace: &Trace, case: &Case<'_>) -> Result<String, AllocErro
         title: words.lines().next().unwrap_or(""),
         words,
         caption: caption(case, &shown.arrows)?,
-        cards: shown.cards(case.alloc, trace)?,
+        cards: shown.cards(case.alloc, names, trace)?,
         arrows: shown.arrows,
     };
     paint(case.alloc, &scene)
@@ -169,13 +171,13 @@ fn push_stand(operations: &mut Vec<Noted>, stand: &Stand) -> Result<(), AllocErr
 
 impl Shown {
     /// The boxes, from top to bottom.
-    fn cards(&self, alloc: Global, trace: &Trace) -> Result<Vec<Card>, AllocError> {
+    fn cards(&self, alloc: Global, names: &Names, trace: &Trace) -> Result<Vec<Card>, AllocError> {
         let mut cards = Vec::new(alloc);
         for row in 0..self.rows.len() {
             if let Some(place) = self.rows.iter().position(|other| *other == row)
                 && let Some(noted) = self.operations.get(place)
             {
-                cards.push(self.card(alloc, trace, place, noted)?)?;
+                cards.push(self.card(alloc, names, trace, place, noted)?)?;
             }
         }
         Ok(cards)
@@ -185,6 +187,7 @@ impl Shown {
     fn card(
         &self,
         alloc: Global,
+        names: &Names,
         trace: &Trace,
         place: usize,
         noted: &Noted,
@@ -196,7 +199,7 @@ impl Shown {
             kind: kind_of(&access),
             is_red: matches!(note, Note::Waits | Note::Finds(_)),
             is_wrong: false,
-            text: format!(in alloc; "{id}  {}{note}", ShownAccess(&access))?,
+            text: format!(in alloc; "{id}  {}{note}", ShownAccess(names, &access))?,
             note: String::new(alloc),
             left_out: self.left_out(trace, place, id),
         })
@@ -237,22 +240,35 @@ fn kind_of(access: &Option<Access>) -> Kind {
     }
 }
 
+/// The place of an address in memory, as a line of a trace has it: with the address's name, or its number where it has none.
+#[derive(Clone, Copy)]
+struct Cell<'a>(&'a Names, Address);
+
+impl<'a> fmt::Display for Cell<'a> {
+    fn fmt<W: fmt::Write>(&self, f: &mut fmt::Formatter<W>) -> fmt::Result {
+        match self.0.name_of(self.1) {
+            Some(name) => write!(f, "M[{name}]"),
+            None => write!(f, "M[{}]", self.1),
+        }
+    }
+}
+
 /// An operation as a line of a trace has it.
 #[derive(Clone, Copy)]
-struct ShownAccess<'a>(&'a Option<Access>);
+struct ShownAccess<'a>(&'a Names, &'a Option<Access>);
 
 impl<'a> fmt::Display for ShownAccess<'a> {
     fn fmt<W: fmt::Write>(&self, f: &mut fmt::Formatter<W>) -> fmt::Result {
-        let Some(access) = self.0 else {
+        let Some(access) = self.1 else {
             return f.write_str("nothing");
         };
-        let (addr, left) = (access.addr(), access.word_left());
+        let (at, left) = (Cell(self.0, access.addr()), access.word_left());
         match access.read() {
-            None => write!(f, "M[{addr}] := {left}"),
-            Some(read) if access.is_store_to(addr) => {
-                write!(f, "M[{addr}] == {read}; M[{addr}] := {left}")
+            None => write!(f, "{at} := {left}"),
+            Some(read) if access.is_store_to(access.addr()) => {
+                write!(f, "{at} == {read}; {at} := {left}")
             }
-            Some(read) => write!(f, "M[{addr}] == {read}"),
+            Some(read) => write!(f, "{at} == {read}"),
         }
     }
 }

@@ -4,11 +4,11 @@ ghost use Rattle.std.specs.Prelude.{◌≡◌, ◌++◌, ◌<◌, ◌≤◌, ◌
 ghost use Rattle.decimal_text.specs.Numbers.{numeral};
 ghost use Rattle.telling.specs.FirstLines.{first_line, operation_count, IsGrown, SaysNo};
 
-use super::shown::{Counted, Deed, Joined, Number, Stored, Written, between};
+use super::shown::{Addresses, At, Counted, Deed, Joined, Number, Stored, Written, between};
 use mem_op::{OpId, Word};
 use refutation::{Point, Range, Refutation, StateSet, Step};
 use refuted_cases::{
-    Course, Givers, Hop, Link, Named, Stand, Walk, closes, hops, link_at, round, stands,
+    Course, Givers, Hop, Link, Named, Names, Stand, Walk, closes, hops, link_at, round, stands,
 };
 use std::alloc::{AllocError, Global};
 use trace::{Access, Address, Trace};
@@ -16,17 +16,19 @@ use trace::{Access, Address, Trace};
 /// The most lines of an argument that are told.
 const MOST_LINES: usize = 100;
 
-/// The most addresses that are told one by one.
-const MOST_ADDRESSES: usize = 8;
-
 /// A refutation of a trace as an argument: the line that says No, and then its steps, one after the other. The cases of a
-/// split stand under `either` and `or`, each to its end.
-pub fn tell(alloc: Global, trace: &Trace, refutation: &Refutation) -> Result<String, AllocError>
+/// split stand under `either` and `or`, each to its end. Names stand in place of the addresses that have some.
+pub fn tell(
+    alloc: Global,
+    names: &Names,
+    trace: &Trace,
+    refutation: &Refutation,
+) -> Result<String, AllocError>
     ensures first { IfOk result (λ text. SaysNo trace.now (string_bytes text)) }
 {
     let mut text = String::new(alloc);
     push_first_line(&mut text, count_of(trace))?;
-    push_argument(&mut text, alloc, trace, refutation)?;
+    push_argument(&mut text, alloc, names, trace, refutation)?;
     Ok(text)
 }
 
@@ -52,12 +54,14 @@ fn push_number(text: &mut String, number: usize) -> Result<(), AllocError>
 pub fn push_argument(
     text: &mut String,
     alloc: Global,
+    names: &Names,
     trace: &Trace,
     refutation: &Refutation,
 ) -> Result<(), AllocError>
     ensures { OnOk result (IsGrown (string_bytes text.old) (string_bytes text.new)) }
 {
-    let argument = argue(alloc, trace, refutation)?;
+    let mut argument = String::new(alloc);
+    push_steps(&mut argument, alloc, names, trace, refutation.steps())?;
     let beginning = beginning_of(alloc, argument.as_str())?;
     text.push_str(beginning.as_str())
 }
@@ -95,20 +99,24 @@ pub fn count_of(trace: &Trace) -> usize
     count(trace.cores())
 }
 
-/// The steps of a refutation, line by line.
-fn argue(alloc: Global, trace: &Trace, refutation: &Refutation) -> Result<String, AllocError> {
-    let mut text = String::new(alloc);
-    push_steps(&mut text, alloc, trace, refutation.steps())?;
-    text.push('\n')?;
-    Ok(text)
-}
-
 /// Adds what steps say, and each case that is taken up after one.
-fn push_steps(text: &mut String, alloc: Global, trace: &Trace, steps: &[Step]) -> Written {
+fn push_steps(
+    text: &mut String,
+    alloc: Global,
+    names: &Names,
+    trace: &Trace,
+    steps: &[Step],
+) -> Written {
     let mut walk = Walk::new(alloc);
     let mut open = None;
     for step in steps {
-        open = push_step(text, alloc, trace, &walk, open, step)?;
+        let argument = Argument {
+            alloc,
+            names,
+            trace,
+            walk: &walk,
+        };
+        open = argument.step(text, open, step)?;
         if walk.follow(step)? {
             push_case(text, &walk, if closes(step) { "or" } else { "either" })?;
             open = None;
@@ -119,33 +127,6 @@ fn push_steps(text: &mut String, alloc: Global, trace: &Trace, steps: &[Step]) -
 
 /// A line that tells where a read has its word from, and can go on with what follows: the number of that fact, and what comes between.
 type Open = Option<(usize, &'static str)>;
-
-/// Adds what a step says, where this line is open; the one that is open then.
-fn push_step(
-    text: &mut String,
-    alloc: Global,
-    trace: &Trace,
-    walk: &Walk,
-    open: Open,
-    step: &Step,
-) -> Result<Open, AllocError> {
-    let argument = Argument { alloc, trace, walk };
-    match step {
-        Step::Read { read, ranges } => argument.read(text, read, ranges.as_slice()),
-        Step::FromRead {
-            source,
-            write,
-            path,
-        } => argument.from_read(text, open, *source, write, path.as_slice()),
-        Step::WriteOrder {
-            source,
-            write,
-            path,
-        } => argument.write_order(text, open, *source, write, path.as_slice()),
-        Step::Cycle { path } => argument.cycle(text, path.as_slice()),
-        Step::States { addresses, set } => argument.states(text, addresses.as_slice(), set),
-    }
-}
 
 /// Begins a line in so many splits.
 fn push_line(text: &mut String, depth: usize) -> Written {
@@ -171,15 +152,35 @@ fn push_case(text: &mut String, walk: &Walk, word: &str) -> Written {
     }
 }
 
-/// What an argument stands on at a step: the trace, and what is known of an order.
+/// What an argument stands on at a step: the trace, and what is known of an order; with the names of its addresses.
 #[derive(Clone, Copy)]
 struct Argument<'a> {
     alloc: Global,
+    names: &'a Names,
     trace: &'a Trace,
     walk: &'a Walk,
 }
 
 impl<'a> Argument<'a> {
+    /// Adds what a step says, where this line is open; the one that is open then.
+    fn step(&self, text: &mut String, open: Open, step: &Step) -> Result<Open, AllocError> {
+        match step {
+            Step::Read { read, ranges } => self.read(text, read, ranges.as_slice()),
+            Step::FromRead {
+                source,
+                write,
+                path,
+            } => self.from_read(text, open, *source, write, path.as_slice()),
+            Step::WriteOrder {
+                source,
+                write,
+                path,
+            } => self.write_order(text, open, *source, write, path.as_slice()),
+            Step::Cycle { path } => self.cycle(text, path.as_slice()),
+            Step::States { addresses, set } => self.states(text, addresses.as_slice(), set),
+        }
+    }
+
     /// Begins a line of the case.
     fn new_line(&self, text: &mut String) -> Written {
         push_line(text, self.walk.depth())
@@ -188,7 +189,7 @@ impl<'a> Argument<'a> {
     /// Adds a read that is looked at, what may give its word, and what it comes after where that is known.
     fn read(&self, text: &mut String, read: &OpId, ranges: &[Range]) -> Result<Open, AllocError> {
         self.new_line(text)?;
-        write!(text, "{}, which ", Deed(self.trace, *read))?;
+        write!(text, "{}, which ", Deed(self.trace, self.names, *read))?;
         let [range] = ranges else {
             push_sources(text, ranges)?;
             return Ok(None);
@@ -208,7 +209,11 @@ impl<'a> Argument<'a> {
     fn gave(&self, text: &mut String, link: &Link) -> Written {
         if let Point::At(read) = link.later {
             let givers = Givers(link.earlier, link.last);
-            write!(text, "{}, which {givers} gave", Deed(self.trace, read))?;
+            write!(
+                text,
+                "{}, which {givers} gave",
+                Deed(self.trace, self.names, read)
+            )?;
         }
         text.push_str("; so ")
     }
@@ -290,7 +295,11 @@ impl<'a> Argument<'a> {
         set: &StateSet,
     ) -> Result<Open, AllocError> {
         self.new_line(text)?;
-        push_set(text, addresses, set.as_slice().len())?;
+        push_set(
+            text,
+            &Addresses(self.names, addresses),
+            set.as_slice().len(),
+        )?;
         for stand in &stands(self.alloc, self.trace, self.walk.facts(), addresses, set)? {
             push_line(text, self.walk.depth().saturating_add(1))?;
             self.stand(text, stand)?;
@@ -324,7 +333,10 @@ impl<'a> Argument<'a> {
         let Some(access) = self.trace.operation(id) else {
             return text.push_str("nothing");
         };
-        let (read, addr) = (access.read().unwrap_or(there), Number(access.addr()));
+        let (read, addr) = (
+            access.read().unwrap_or(there),
+            At(self.names, access.addr()),
+        );
         let (read, there) = (Number(read), Number(there));
         write!(text, "a {read} at address {addr}, which has {there}")
     }
@@ -366,29 +378,13 @@ fn is_told(hop: &Hop) -> bool {
 }
 
 /// Adds that a set of so many states at these addresses has no end.
-fn push_set(text: &mut String, addresses: &[Address], count: usize) -> Written {
-    text.push_str("but no order of the operations at ")?;
-    push_addresses(text, addresses)?;
+fn push_set(text: &mut String, addresses: &Addresses<'_>, count: usize) -> Written {
     let s = if count == 1 { "s" } else { "" };
+    let states = Counted(count as u64, "state");
     write!(
         text,
-        " comes to its end, as {} show{s}; in the furthest one",
-        Counted(count as u64, "state")
+        "but no order of the operations at {addresses} comes to its end, as {states} show{s}; in the furthest one"
     )
-}
-
-/// Adds addresses, or how many there are.
-fn push_addresses(text: &mut String, addresses: &[Address]) -> Written {
-    let count = addresses.len();
-    if count > MOST_ADDRESSES {
-        return write!(text, "{count} addresses");
-    }
-    text.push_str(if count == 1 { "address " } else { "addresses " })?;
-    for (place, addr) in addresses.iter().enumerate() {
-        let before = between(place, count, " and ");
-        write!(text, "{before}{}", Number(*addr))?;
-    }
-    Ok(())
 }
 
 /// Adds at which operation a core waits, or would wait.

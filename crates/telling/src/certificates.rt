@@ -8,7 +8,7 @@ use super::step_lines::push_bad_step;
 use decimal_text::{after_text, read_last};
 use log_file::line_of;
 use refutation::{CertificateFault, Refutation, first_wrong_step};
-use refuted_cases::Walk;
+use refuted_cases::{Names, Walk};
 use std::alloc::{AllocError, Global};
 use trace::Trace;
 
@@ -120,8 +120,10 @@ fn push_wrong_step(told: &mut String, alloc: Global, trace: &Trace, all: &Refuta
     for step in before {
         cases.follow(step)?;
     }
+    let names = Names::none(alloc);
     let asked = Asked {
         trace,
+        names: &names,
         steps: before,
         facts: cases.facts(),
     };

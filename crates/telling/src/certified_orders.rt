@@ -7,6 +7,7 @@ use super::slips::{RefusedLine, is_feed, number_in, push_trouble, trouble_of};
 use super::step_lines::begins_step;
 use mem_op::{CoreId, OpId, OpIndex};
 use refutation::Point;
+use refuted_cases::Names;
 use std::alloc::Global;
 use std::str;
 use trace::{Address, Trace};
@@ -25,8 +26,10 @@ pub(crate) fn push_order_line(
         .take(lines)
         .filter_map(id_of)
         .collect(alloc)?;
+    let names = Names::none(alloc);
     let placed = Placed {
         trace,
+        names: &names,
         before: before.as_slice(),
     };
     match id_of(at.line) {
@@ -82,10 +85,11 @@ fn slip_of(first: &str, words: &[&str]) -> Option<&'static str> {
     )
 }
 
-/// An order as far as it is right: these operations of the trace.
+/// An order as far as it is right: these operations of the trace, whose addresses have these names.
 #[derive(Clone, Copy)]
 struct Placed<'a> {
     trace: &'a Trace,
+    names: &'a Names,
     before: &'a [OpId],
 }
 
@@ -105,7 +109,7 @@ impl<'a> Placed<'a> {
                 "The next operation of core {core} is {core}.{next}.\n"
             );
         }
-        let deed = Deed(self.trace, *id);
+        let deed = Deed(self.trace, self.names, *id);
         match self.last_store(access.addr()) {
             Some(store) => write!(
                 told,

@@ -1,6 +1,6 @@
 //! An explanation of a verdict as text: a sentence, the facts behind it, and a table of what stands around.
 
-use super::findings::{first_sentence, push_culprit, push_times};
+use super::findings::{at, first_sentence, push_culprit, push_times};
 use super::shown::{Bytes, Number, Plain, Written};
 use core_program::print_instruction;
 use explain::{
@@ -9,26 +9,28 @@ use explain::{
 };
 use log_record::{Act, Entry, LineBuffer};
 use mem_op::Word;
+use refuted_cases::Names;
 use std::alloc::{AllocError, Global};
 use std::fmt;
 use std::fmt::Display;
 
 /// The text of an explanation, which belongs after the line of its verdict. These are the names of the files, that of core 0
-/// first.
+/// first, and the names of addresses, which stand in place of those in all but the lines of the files.
 pub fn print(
     alloc: Global,
-    names: &[&str],
+    files: &[&str],
+    names: &Names,
     explanation: &Explanation,
 ) -> Result<String, AllocError> {
     let mut text = match explanation {
         Explanation::Summed(_) => Ok(String::new(alloc)),
-        _ => first_sentence(alloc, explanation),
+        _ => first_sentence(alloc, names, explanation),
     }?;
     match explanation {
-        Explanation::Load(found) => push_wrong_read(alloc, names, &mut text, found),
-        Explanation::CoreOrder(fall) => push_fall(names, &mut text, fall),
-        Explanation::Program(departure) => push_departure(alloc, names, &mut text, departure),
-        Explanation::Summed(summary) => push_summary(&mut text, summary),
+        Explanation::Load(found) => push_wrong_read(alloc, files, names, &mut text, found),
+        Explanation::CoreOrder(fall) => push_fall(files, &mut text, fall),
+        Explanation::Program(departure) => push_departure(alloc, files, &mut text, departure),
+        Explanation::Summed(summary) => push_summary(&mut text, names, summary),
     }?;
     Ok(text)
 }
@@ -55,16 +57,22 @@ impl<'n, 'e, 'w> Display for Line<'n, 'e, 'w> {
 }
 
 /// Adds the text of a load or a swap that breaks a rule.
-fn push_wrong_read(alloc: Global, names: &[&str], text: &mut String, found: &WrongRead) -> Written {
+fn push_wrong_read(
+    alloc: Global,
+    files: &[&str],
+    names: &Names,
+    text: &mut String,
+    found: &WrongRead,
+) -> Written {
     push_culprit(text, found)?;
     push_times(text, found)?;
-    push_lines(alloc, names, text, found)?;
-    push_counts(text, &found.faults)?;
-    push_tables(text, alloc, found)
+    push_lines(alloc, files, text, found)?;
+    push_counts(text, names, &found.faults)?;
+    push_tables(text, alloc, names, found)
 }
 
 /// Adds the lines of a load, of what it should read, and of what it names.
-fn push_lines(alloc: Global, names: &[&str], text: &mut String, found: &WrongRead) -> Written {
+fn push_lines(alloc: Global, files: &[&str], text: &mut String, found: &WrongRead) -> Written {
     let unknown = match named_id(&found.load) {
         None => String::from_str(alloc, "the initial 0"),
         Some(id) => format!(in alloc; "{id}, which isn't in the logs"),
@@ -73,22 +81,22 @@ fn push_lines(alloc: Global, names: &[&str], text: &mut String, found: &WrongRea
         text,
         "\n\nthe {}        {}\nit should read  {}\nit names        {}\nits last there  {}\n",
         kind_name(&found.load),
-        Line(names, Some(&found.load), ""),
-        Line(names, found.right.as_ref(), "the initial 0"),
-        Line(names, found.named.as_ref(), unknown.as_str()),
-        Line(names, found.own_last.as_ref(), "none")
+        Line(files, Some(&found.load), ""),
+        Line(files, found.right.as_ref(), "the initial 0"),
+        Line(files, found.named.as_ref(), unknown.as_str()),
+        Line(files, found.own_last.as_ref(), "none")
     )
 }
 
 /// Adds how many operations break SOURCE or VALUE.
-fn push_counts(text: &mut String, faults: &FaultCounts) -> Written {
+fn push_counts(text: &mut String, names: &Names, faults: &FaultCounts) -> Written {
     write!(
         text,
         "faults          {} SOURCE, {} VALUE, by the keys\nof cores        {}\nat addresses    {}",
         faults.source,
         faults.value,
         ByCore(faults.by_core.as_slice()),
-        Uses(faults.most.as_slice())
+        Uses(names, faults.most.as_slice())
     )?;
     match faults.addresses.saturating_sub(faults.most.len()) {
         0 => text.push('\n'),
@@ -97,13 +105,20 @@ fn push_counts(text: &mut String, faults: &FaultCounts) -> Written {
 }
 
 /// Adds the tables of what stands around a load.
-fn push_tables(text: &mut String, alloc: Global, found: &WrongRead) -> Written {
+fn push_tables(text: &mut String, alloc: Global, names: &Names, found: &WrongRead) -> Written {
     let own = found.own_rows.as_slice();
-    push_table(text, alloc, found.rows.as_slice(), &found.load, false)?;
-    push_table(text, alloc, own, &found.load, true)?;
+    push_table(
+        text,
+        alloc,
+        names,
+        found.rows.as_slice(),
+        &found.load,
+        false,
+    )?;
+    push_table(text, alloc, names, own, &found.load, true)?;
     match &found.right {
         Some(right) if place_of(own, right.id()).is_none() => {
-            push_table(text, alloc, found.right_rows.as_slice(), right, true)
+            push_table(text, alloc, names, found.right_rows.as_slice(), right, true)
         }
         _ => Ok(()),
     }
@@ -127,7 +142,7 @@ impl<'a> Display for ByCore<'a> {
 }
 
 /// Adds the text of a log that falls.
-fn push_fall(names: &[&str], text: &mut String, fall: &Fall) -> Written {
+fn push_fall(files: &[&str], text: &mut String, fall: &Fall) -> Written {
     let mut faults = 0usize;
     for count in &fall.by_core {
         faults = faults.saturating_add(*count);
@@ -135,8 +150,8 @@ fn push_fall(names: &[&str], text: &mut String, fall: &Fall) -> Written {
     write!(
         text,
         "\n\nbefore it  {}\nthe fault  {}\nfaults     {faults} CORE-ORDER\nof cores   {}\n",
-        Line(names, Some(&fall.before), ""),
-        Line(names, Some(&fall.fault), ""),
+        Line(files, Some(&fall.before), ""),
+        Line(files, Some(&fall.fault), ""),
         ByCore(fall.by_core.as_slice())
     )
 }
@@ -144,7 +159,7 @@ fn push_fall(names: &[&str], text: &mut String, fall: &Fall) -> Written {
 /// Adds the text of a log that isn't its program's.
 fn push_departure(
     alloc: Global,
-    names: &[&str],
+    files: &[&str],
     text: &mut String,
     departure: &Departure,
 ) -> Written {
@@ -159,7 +174,7 @@ fn push_departure(
         text,
         "\nregisters  {}\nfound      {}\n",
         Registers(&departure.registers),
-        Line(names, departure.found.as_ref(), "the end of the log")
+        Line(files, departure.found.as_ref(), "the end of the log")
     )
 }
 
@@ -181,7 +196,7 @@ impl<'a> Display for Registers<'a> {
 }
 
 /// Adds what a set has that gets Yes.
-fn push_summary(text: &mut String, summary: &Summary) -> Written {
+fn push_summary(text: &mut String, names: &Names, summary: &Summary) -> Written {
     write!(
         text,
         "\ncores          {}\nloads          {}\nstores         {}\n",
@@ -190,7 +205,7 @@ fn push_summary(text: &mut String, summary: &Summary) -> Written {
     if summary.swaps > 0 {
         write!(text, "swaps          {}\n", summary.swaps)?;
     }
-    let uses = Uses(summary.most_used.as_slice());
+    let uses = Uses(names, summary.most_used.as_slice());
     write!(
         text,
         "addresses      {}\nmost used      {uses}\nstamps         ",
@@ -205,16 +220,16 @@ fn push_summary(text: &mut String, summary: &Summary) -> Written {
 
 /// The most used addresses, each with the number of its operations.
 #[derive(Clone, Copy)]
-struct Uses<'a>(&'a [Use]);
+struct Uses<'a>(&'a Names, &'a [Use]);
 
 impl<'a> Display for Uses<'a> {
     fn fmt<W: fmt::Write>(&self, f: &mut fmt::Formatter<W>) -> fmt::Result {
-        if self.0.is_empty() {
+        if self.1.is_empty() {
             return f.write_str("none");
         }
-        for (place, it) in self.0.iter().enumerate() {
+        for (place, it) in self.1.iter().enumerate() {
             let between = if place == 0 { "" } else { ", " };
-            write!(f, "{between}{} ({})", it.addr.get(), it.operations)?;
+            write!(f, "{between}{} ({})", at(self.0, it.addr), it.operations)?;
         }
         Ok(())
     }
@@ -235,13 +250,13 @@ const ARE_NUMBERS: [bool; 7] = [false, true, true, false, true, true, false];
 /// The cells of a record, with tabs between: its mark and id, its key, what it did, its address, its word, or those that a swap read and
 /// stored, and where it says that the word which it read came from.
 #[derive(Clone, Copy)]
-struct Row<'a>(char, &'a Entry);
+struct Row<'a>(&'a Names, char, &'a Entry);
 
 impl<'a> Display for Row<'a> {
     fn fmt<W: fmt::Write>(&self, f: &mut fmt::Formatter<W>) -> fmt::Result {
-        let (mark, entry) = (self.0, self.1);
+        let (mark, entry) = (self.1, self.2);
         let (id, key, kind) = (entry.id(), entry.key(), kind_name(entry));
-        let (stamp, rank, addr) = (key.ts.get(), key.rank.get(), entry.addr().get());
+        let (stamp, rank, addr) = (key.ts.get(), key.rank.get(), at(self.0, entry.addr()));
         write!(f, "{mark} {id}\t{stamp}\t{rank}\t{kind}\t{addr}\t")?;
         if let Act::Swap(_, read) = &entry.act() {
             write!(f, "{read} -> ")?;
@@ -260,16 +275,17 @@ impl<'a> Display for Row<'a> {
 fn push_table(
     text: &mut String,
     alloc: Global,
+    names: &Names,
     entries: &[Entry],
     marked: &Entry,
     is_of_core: bool,
 ) -> Written {
-    let (core, addr) = (marked.id().core.get(), marked.addr().get());
+    let (core, addr) = (marked.id().core.get(), at(names, marked.addr()));
     match is_of_core {
         true => write!(text, "\ncore {core} in program order:\n"),
         false => write!(text, "\naddress {addr} by key:\n"),
     }?;
-    let rows = rows(alloc, entries, marked, is_of_core)?;
+    let rows = rows(alloc, names, entries, marked, is_of_core)?;
     let widths = widened(if is_of_core { WIDTHS } else { NARROW }, rows.as_str());
     for row in rows.lines() {
         push_row(text, alloc, row, &widths)?;
@@ -280,6 +296,7 @@ fn push_table(
 /// The lines of a table, in which tabs stand between the cells.
 fn rows(
     alloc: Global,
+    names: &Names,
     entries: &[Entry],
     marked: &Entry,
     is_of_core: bool,
@@ -291,7 +308,7 @@ fn rows(
             entry if is_of_core && entry.addr() == marked.addr() => '*',
             _ => ' ',
         };
-        write!(rows, "\n{}", Row(mark, entry))?;
+        write!(rows, "\n{}", Row(names, mark, entry))?;
     }
     Ok(rows)
 }

@@ -1,10 +1,10 @@
 //! Which question of its rule a step of a refutation fails.
 
 use super::failed_sets::push_failed_set;
-use super::shown::{Deed, Number, Written};
+use super::shown::{At, Deed, Written};
 use mem_op::{CoreId, OpId, OpIndex, Word};
 use refutation::{Point, Range, Step, is_up_to, lies_in};
-use refuted_cases::{Link, Named};
+use refuted_cases::{Link, Named, Names};
 use std::alloc::Global;
 use std::fmt;
 use std::fmt::Display;
@@ -60,24 +60,24 @@ impl Display for OfPath {
     }
 }
 
-/// The words about a failure, beside a trace.
+/// The words about a failure, beside a trace whose addresses have these names.
 #[derive(Clone, Copy)]
-struct Told<'a>(&'a Trace, Failure);
+struct Told<'a>(&'a Trace, &'a Names, Failure);
 
 impl<'a> Display for Told<'a> {
     fn fmt<W: fmt::Write>(&self, f: &mut fmt::Formatter<W>) -> fmt::Result {
-        match self.1 {
+        match self.2 {
             Failure::NoOperation(id) => write!(f, "The trace has no operation {}.", Point::At(id)),
-            Failure::NoRead(id) => write!(f, "{}, and read nothing.", Deed(self.0, id)),
+            Failure::NoRead(id) => write!(f, "{}, and read nothing.", Deed(self.0, self.1, id)),
             Failure::Outside(id, Point::Init) => write!(
                 f,
                 "{}. The initial 0 may have given that, and lies in none of the ranges.",
-                Deed(self.0, id)
+                Deed(self.0, self.1, id)
             ),
             Failure::Outside(id, write) => write!(
                 f,
                 "{}. {write} stored that there, and lies in none of the ranges.",
-                Deed(self.0, id)
+                Deed(self.0, self.1, id)
             ),
             Failure::NoSource(number, known) => write!(
                 f,
@@ -88,8 +88,8 @@ impl<'a> Display for Told<'a> {
             Failure::Elsewhere(id, addr, read) => write!(
                 f,
                 "{}; the step names a store or swap at address {}, where {read} read.",
-                Deed(self.0, id),
-                Number(addr)
+                Deed(self.0, self.1, id),
+                At(self.1, addr)
             ),
             Failure::Itself(at) => {
                 write!(f, "{at} is the read itself; the step names another write.")
@@ -103,10 +103,11 @@ impl<'a> Display for Told<'a> {
     }
 }
 
-/// What a rule is asked about: a trace, the steps before, and the facts in force.
+/// What a rule is asked about: a trace, the names of its addresses, the steps before, and the facts in force.
 #[derive(Clone, Copy)]
 pub(crate) struct Asked<'a> {
     pub(crate) trace: &'a Trace,
+    pub(crate) names: &'a Names,
     pub(crate) steps: &'a [Step],
     pub(crate) facts: &'a [Link],
 }
@@ -140,7 +141,7 @@ impl<'a> Asked<'a> {
             }
         };
         match asked {
-            Err(failure) => write!(told, "{}\n", Told(self.trace, failure)),
+            Err(failure) => write!(told, "{}\n", Told(self.trace, self.names, failure)),
             Ok(()) => Ok(()),
         }
     }

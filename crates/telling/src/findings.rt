@@ -1,51 +1,61 @@
 //! What is wrong, in a sentence; which store a load that breaks a rule points to, and what its times allow.
 
-use super::shown::{Number, Written};
+use super::shown::{At, Number, Written};
 use address_check::is_store;
 use explain::{Departure, Explanation, Fall, WrongRead, named_id, ties};
 use log_record::{Act, Entry};
-use mem_op::Op;
+use mem_op::{Addr, Op};
+use refuted_cases::Names;
 use std::alloc::{AllocError, Global};
 use std::fmt;
 use std::fmt::Display;
 use verdict::Rule;
 
-/// The sentence that an explanation begins with: what is wrong, or that nothing is.
-pub fn first_sentence(alloc: Global, explanation: &Explanation) -> Result<String, AllocError> {
+/// The sentence that an explanation begins with: what is wrong, or that nothing is. Names stand in place of the addresses that have some.
+pub fn first_sentence(
+    alloc: Global,
+    names: &Names,
+    explanation: &Explanation,
+) -> Result<String, AllocError> {
     let mut text = String::new(alloc);
     match explanation {
-        Explanation::Load(found) => push_wrong_read(&mut text, found),
+        Explanation::Load(found) => push_wrong_read(&mut text, names, found),
         Explanation::CoreOrder(fall) => push_fall(&mut text, fall),
-        Explanation::Program(departure) => push_departure(&mut text, departure),
+        Explanation::Program(departure) => push_departure(&mut text, names, departure),
         Explanation::Summed(_) => text.push_str("No operation breaks a rule."),
     }?;
     Ok(text)
 }
 
+/// The address of a record, as it is told.
+pub(crate) fn at<'a>(names: &'a Names, addr: Addr) -> At<'a> {
+    At(names, addr.get())
+}
+
 /// Adds what is wrong with a load, or with what a swap reads.
-fn push_wrong_read(text: &mut String, found: &WrongRead) -> Written {
+fn push_wrong_read(text: &mut String, names: &Names, found: &WrongRead) -> Written {
     match (found.rule, &found.right, named_id(&found.load)) {
-        (Rule::Value, Some(right), _) => push_wrong_value(text, &found.load, right),
+        (Rule::Value, Some(right), _) => push_wrong_value(text, names, &found.load, right),
         (Rule::Value, None, _) => {
-            push_initial_read(text, &found.load)?;
+            push_initial_read(text, names, &found.load)?;
             text.push_str(", but that is 0.")
         }
         (_, _, Some(named)) => {
-            let (load, addr) = (found.load.id(), found.load.addr().get());
+            let (load, addr) = (found.load.id(), at(names, found.load.addr()));
             write!(text, "{load} read address {addr} from {named}")?;
-            push_wrong_source(text, found)
+            push_wrong_source(text, names, found)
         }
         (_, _, None) => {
-            push_initial_read(text, &found.load)?;
+            push_initial_read(text, names, &found.load)?;
             push_last_store(text, &found.right, "before it")
         }
     }
 }
 
 /// Adds that a load read another word than the store left which it should read.
-fn push_wrong_value(text: &mut String, load: &Entry, right: &Entry) -> Written {
+fn push_wrong_value(text: &mut String, names: &Names, load: &Entry, right: &Entry) -> Written {
     let read = Number(load.logged().word_answered());
-    let (load, addr) = (load.id(), load.addr().get());
+    let (load, addr) = (load.id(), at(names, load.addr()));
     let (store, stored) = (right.id(), Number(right.value()));
     write!(
         text,
@@ -54,9 +64,9 @@ fn push_wrong_value(text: &mut String, load: &Entry, right: &Entry) -> Written {
 }
 
 /// Adds what a load or a swap read whose source is the initial word. That word is 0, but a log may have another.
-fn push_initial_read(text: &mut String, read: &Entry) -> Written {
-    let (load, addr, word) = (read.id(), read.addr().get(), read.logged().word_answered());
-    match Number(word) {
+fn push_initial_read(text: &mut String, names: &Names, read: &Entry) -> Written {
+    let (load, addr) = (read.id(), at(names, read.addr()));
+    match Number(read.logged().word_answered()) {
         Number(0) => write!(text, "{load} read the initial 0 of address {addr}"),
         word => write!(
             text,
@@ -66,21 +76,24 @@ fn push_initial_read(text: &mut String, read: &Entry) -> Written {
 }
 
 /// Adds what is wrong with the record that a source names.
-fn push_wrong_source(text: &mut String, found: &WrongRead) -> Written {
+fn push_wrong_source(text: &mut String, names: &Names, found: &WrongRead) -> Written {
     match (wrong_source(found), &found.named) {
         (None, _) => return push_last_store(text, &found.right, "after that"),
-        (Some(""), Some(named)) => write!(text, ", which stores at address {}", named.addr().get()),
+        (Some(""), Some(named)) => {
+            let addr = at(names, named.addr());
+            write!(text, ", which stores at address {addr}")
+        }
         (Some(wrong), _) => text.push_str(wrong),
     }?;
-    let addr = found.load.addr().get();
+    let addr = at(names, found.load.addr());
     match &found.right {
         None => write!(text, "; no store to address {addr} comes before it."),
-        Some(right) => push_right(text, addr, right),
+        Some(right) => push_right(text, &addr, right),
     }
 }
 
 /// Adds the store that should have been read at an address.
-fn push_right(text: &mut String, addr: u64, right: &Entry) -> Written {
+fn push_right(text: &mut String, addr: &At<'_>, right: &Entry) -> Written {
     let (store, stored) = (right.id(), Number(right.value()));
     write!(
         text,
@@ -127,11 +140,11 @@ fn push_fall(text: &mut String, fall: &Fall) -> Written {
 }
 
 /// Adds what a core's log has in place of what its program does.
-fn push_departure(text: &mut String, departure: &Departure) -> Written {
+fn push_departure(text: &mut String, names: &Names, departure: &Departure) -> Written {
     let (id, core) = (departure.id, departure.id.core.get());
     match &departure.found {
         None => write!(text, "The log of core {core} ends before {id}, where"),
-        Some(found) => write!(text, "{} {}, but", found.id(), Deed(&op_of(found))),
+        Some(found) => write!(text, "{} {}, but", found.id(), Deed(names, &op_of(found))),
     }?;
     let there = if departure.found.is_some() {
         " there"
@@ -140,7 +153,7 @@ fn push_departure(text: &mut String, departure: &Departure) -> Written {
     };
     match &departure.due {
         None => text.push_str(" its program had ended."),
-        Some(due) => write!(text, " its program {}{there}.", Deed(&due.op)),
+        Some(due) => write!(text, " its program {}{there}.", Deed(names, &due.op)),
     }
 }
 
@@ -156,16 +169,17 @@ fn op_of(entry: &Entry) -> Op {
 
 /// What an operation does, as the end of a sentence.
 #[derive(Clone, Copy)]
-struct Deed<'a>(&'a Op);
+struct Deed<'a>(&'a Names, &'a Op);
 
 impl<'a> Display for Deed<'a> {
     fn fmt<W: fmt::Write>(&self, f: &mut fmt::Formatter<W>) -> fmt::Result {
-        let (addr, value, does, to) = match self.0 {
-            Op::Load(addr) => return write!(f, "loads address {}", addr.get()),
+        let (addr, value, does, to) = match self.1 {
+            Op::Load(addr) => return write!(f, "loads address {}", at(self.0, *addr)),
             Op::Store(addr, value) => (addr, value, "stores", "at"),
             Op::Swap(addr, value) => (addr, value, "swaps", "into"),
         };
-        write!(f, "{does} {} {to} address {}", Number(*value), addr.get())
+        let (value, addr) = (Number(*value), at(self.0, *addr));
+        write!(f, "{does} {value} {to} address {addr}")
     }
 }
 

@@ -9,6 +9,7 @@ mod failed_sets;
 mod failed_steps;
 mod findings;
 mod logs;
+mod names;
 mod programs;
 mod refusals;
 mod shown;

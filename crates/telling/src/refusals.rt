@@ -5,6 +5,7 @@ ghost use Rattle.telling.specs.Places.{place_text};
 
 use super::certificates::push_certificate_line;
 use super::logs::push_log;
+use super::names::push_names_line;
 use super::programs::push_bad_line;
 use super::shown::{Bytes, Written};
 use super::slips::RefusedLine;
@@ -63,6 +64,8 @@ pub enum Refused<'a> {
     BadTraceLine,
     /// A trace, at the 1,048,577th operation of a core.
     TooMany,
+    /// The names of addresses, at a line that isn't as it should be.
+    BadNamesLine,
     /// A certificate of this trace, at a line that isn't as it should be, or says what the trace doesn't bear out.
     BadCertificate(&'a Trace),
 }
@@ -74,6 +77,7 @@ impl<'a> Refused<'a> {
             Refused::Log { file, files, fault } => return push_log(text, (file, files), fault, at),
             Refused::BadLine(kind) => return push_bad_line(text, kind, at),
             Refused::BadTraceLine => return push_trace_line(text, at.line),
+            Refused::BadNamesLine => return push_names_line(text, at),
             Refused::BadCertificate(trace) => return push_certificate_line(text, alloc, trace, at),
             Refused::TooLong => "A program has at most 4096 instructions.\n",
             Refused::SkipPastEnd => "It skips further than to just past the last instruction.\n",

@@ -2,11 +2,14 @@
 
 use mem_op::OpId;
 use refutation::Point;
-use refuted_cases::{Hop, Named};
+use refuted_cases::{Hop, Named, Names};
 use std::alloc::AllocError;
 use std::fmt;
 use std::fmt::Display;
-use trace::{Access, Trace};
+use trace::{Access, Address, Trace};
+
+/// As many addresses are told one by one at most.
+const MOST_ADDRESSES: usize = 8;
 
 /// What adding to a text answers.
 pub(crate) type Written = Result<(), AllocError>;
@@ -14,7 +17,7 @@ pub(crate) type Written = Result<(), AllocError>;
 /// As many characters of a text are shown at most.
 const MOST_SHOWN: usize = 80;
 
-/// A word or an address, in hexadecimal too where it is long.
+/// A word, in hexadecimal too where it is long.
 #[derive(Clone, Copy)]
 pub(crate) struct Number(pub(crate) u64);
 
@@ -23,6 +26,19 @@ impl Display for Number {
         match self.0 {
             number @ 0..=9_999_999 => write!(f, "{number}"),
             number => write!(f, "{number} (0x{number:x})"),
+        }
+    }
+}
+
+/// An address: its name, or its number where it has none.
+#[derive(Clone, Copy)]
+pub(crate) struct At<'a>(pub(crate) &'a Names, pub(crate) Address);
+
+impl<'a> Display for At<'a> {
+    fn fmt<W: fmt::Write>(&self, f: &mut fmt::Formatter<W>) -> fmt::Result {
+        match self.0.name_of(self.1) {
+            Some(name) => name.fmt(f),
+            None => Number(self.1).fmt(f),
         }
     }
 }
@@ -44,6 +60,25 @@ pub(crate) fn between(place: usize, count: usize, word: &'static str) -> &'stati
         0 => "",
         _ if place.saturating_add(1) == count => word,
         _ => ", ",
+    }
+}
+
+/// Addresses, or how many there are.
+#[derive(Clone, Copy)]
+pub(crate) struct Addresses<'a>(pub(crate) &'a Names, pub(crate) &'a [Address]);
+
+impl<'a> Display for Addresses<'a> {
+    fn fmt<W: fmt::Write>(&self, f: &mut fmt::Formatter<W>) -> fmt::Result {
+        let count = self.1.len();
+        if count > MOST_ADDRESSES {
+            return write!(f, "{count} addresses");
+        }
+        f.write_str(if count == 1 { "address " } else { "addresses " })?;
+        for (place, addr) in self.1.iter().enumerate() {
+            let before = between(place, count, " and ");
+            write!(f, "{before}{}", At(self.0, *addr))?;
+        }
+        Ok(())
     }
 }
 
@@ -95,16 +130,16 @@ impl Display for Stored {
 
 /// An operation and what it did.
 #[derive(Clone, Copy)]
-pub(crate) struct Deed<'a>(pub(crate) &'a Trace, pub(crate) OpId);
+pub(crate) struct Deed<'a>(pub(crate) &'a Trace, pub(crate) &'a Names, pub(crate) OpId);
 
 impl<'a> Display for Deed<'a> {
     fn fmt<W: fmt::Write>(&self, f: &mut fmt::Formatter<W>) -> fmt::Result {
-        let point = Point::At(self.1);
-        let Some(access) = self.0.operation(&self.1) else {
+        let point = Point::At(self.2);
+        let Some(access) = self.0.operation(&self.2) else {
             return write!(f, "{point} did nothing");
         };
         let addr = access.addr();
-        let (left, to) = (Number(access.word_left()), Number(addr));
+        let (left, to) = (Number(access.word_left()), At(self.1, addr));
         match access.read() {
             None => write!(f, "{point} stored {left} to address {to}"),
             Some(read) if access.is_store_to(addr) => {
