@@ -5,5 +5,6 @@ mod Left
 mod Progress
 pub mod SimulatedRuns
 pub mod Ended
+mod EventTable
 pub mod CommandTexts
 pub mod ScheduleTexts

@@ -1,6 +1,7 @@
 pub mod CommandTexts
 pub mod Commands
 pub mod Drawing
+pub mod EventTable
 pub mod Events
 pub mod Faults
 pub mod Finishing

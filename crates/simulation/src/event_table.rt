@@ -1,7 +1,13 @@
 //! A run as a table, a line for each event.
 
+ghost use Rattle.std.specs.Prelude.{◌≡◌, ◌∷◌, ◌++◌, [], IfOk, OnOk, string_bytes};
+ghost use Rattle.std.specs.Io.KnownBytes.{Appends};
+ghost use Rattle.csv.specs.Records.{fields_of};
+ghost use Rattle.csv.specs.Writing.{default_writer, row_text};
+ghost use Rattle.csv_lines.specs.Lines.{IsFresh, written};
 ghost use Rattle.core_machine.specs.Parts.{CoreParts};
 ghost use Rattle.simulation.specs.Commands.{CommandLeads, EventLeadsAnyhow, IsAtOwner};
+ghost use Rattle.simulation.specs.EventTable.{AreCellsOf, IsTable, command_of};
 
 use super::command::Command;
 use super::event_text::OutcomeText;
@@ -44,8 +50,6 @@ const COLUMNS: [&str; 18] = [
 /// An event, what came of it, and the machine after it.
 #[derive(Clone, Copy)]
 struct Step<'a> {
-    /// Which event of the run it is, counted from 1.
-    number: u64,
     event: &'a Event,
     outcome: &'a Outcome,
     /// The address of the message that its core had in hand before it.
@@ -59,7 +63,9 @@ pub fn print_events(
     alloc: Global,
     programs: &ProgramSet,
     run: &Core,
-) -> Result<Vec<u8>, AllocError> {
+) -> Result<Vec<u8>, AllocError>
+    ensures { IfOk result (λ text. IsTable run.now text.items) }
+{
     let Some(events) = run.events() else {
         return Err(AllocError);
     };
@@ -67,26 +73,33 @@ pub fn print_events(
         return Err(AllocError);
     };
     let mut writer = new_writer(alloc);
-    write_cells(&mut writer, &header_cells(alloc)?)?;
+    let names = header_cells(alloc)?;
+    write_cells(&mut writer, &names)?;
     for (at, event) in events.iter().enumerate() {
         let asked = asked_by(&machine, event);
         let Ok(outcome) = &machine.step(*event) else {
             return Err(AllocError);
         };
         let step = Step {
-            number: at as u64 + 1,
             event,
             outcome,
             asked,
             machine: &machine,
         };
-        write_cells(&mut writer, &step_cells(alloc, &step)?)?;
+        let told = told_cells(alloc, &step)?;
+        let cells = row_cells(alloc, at as u64 + 1, event, &told)?;
+        write_cells(&mut writer, &cells)?;
     }
-    text_of(writer)
+    let text = text_of(writer)?;
+    Ok(text)
 }
 
 /// Writes a line of these cells.
-fn write_cells(writer: &mut Writer<Vec<u8>>, cells: &StringRecord) -> Result<(), AllocError> {
+fn write_cells(writer: &mut Writer<Vec<u8>>, cells: &StringRecord) -> Result<(), AllocError>
+    ensures text { OnOk result (IsFresh writer.old → Appends (written writer.old) (written writer.new)
+        (row_text default_writer (fields_of cells.now))) }
+    ensures fresh { OnOk result (IsFresh writer.old → IsFresh writer.new) }
+{
     match writer.write_byte_record(cells.as_byte_record()) {
         Ok(()) => Ok(()),
         Err(_) => Err(AllocError),
@@ -102,8 +115,28 @@ fn header_cells(alloc: Global) -> Result<StringRecord, AllocError> {
     Ok(cells)
 }
 
-/// The cells of a line.
-fn step_cells(alloc: Global, step: &Step<'_>) -> Result<StringRecord, AllocError> {
+/// The cells of a line: the number of its event, counted from 1, the event, and what it tells of it.
+fn row_cells(
+    alloc: Global,
+    number: u64,
+    event: &Event,
+    told: &StringRecord,
+) -> Result<StringRecord, AllocError>
+    ensures { IfOk result (λ cells. AreCellsOf number event.now (fields_of cells)) }
+{
+    let mut cells = StringRecord::new(alloc);
+    push_number(alloc, &mut cells, number)?;
+    push_text(&mut cells, &command_of(event).to_string(alloc)?)?;
+    for at in 0..told.len() {
+        if let Some(cell) = told.get(at) {
+            cells.push_field(cell)?;
+        }
+    }
+    Ok(cells)
+}
+
+/// The cells that tell what came of an event.
+fn told_cells(alloc: Global, step: &Step<'_>) -> Result<StringRecord, AllocError> {
     let mut cells = StringRecord::new(alloc);
     let unit = unit_of(step.machine, step.event);
     let made = made_by(unit, step.outcome);
@@ -111,8 +144,6 @@ fn step_cells(alloc: Global, step: &Step<'_>) -> Result<StringRecord, AllocError
         outcome: step.outcome,
         made,
     };
-    push_number(alloc, &mut cells, step.number)?;
-    push_text(&mut cells, &command_of(step.event).to_string(alloc)?)?;
     push_text(&mut cells, &outcome.to_string(alloc)?)?;
     push_line(alloc, &mut cells, step, unit, addr_of(step, made))?;
     match unit {
@@ -201,7 +232,9 @@ fn push_stamps(alloc: Global, cells: &mut StringRecord, line: &Line) -> Result<(
 }
 
 /// Adds a cell of this text.
-fn push_text(cells: &mut StringRecord, text: &String) -> Result<(), AllocError> {
+fn push_text(cells: &mut StringRecord, text: &String) -> Result<(), AllocError>
+    ensures { OnOk result (fields_of cells.new ≡ fields_of cells.old ++ string_bytes text.now ∷ []) }
+{
     cells.push_field(text.as_str())
 }
 
@@ -215,7 +248,8 @@ fn push_blanks(cells: &mut StringRecord, count: usize) -> Result<(), AllocError>
 
 /// The command of a schedule that makes just this event, if a recall comes to the owner that it names.
 fn command_of(event: &Event) -> Command
-    ensures { IsAtOwner event.now → (p q : CoreParts) → CommandLeads p result q → EventLeadsAnyhow p event.now q }
+    ensures command { result ≡ command_of event.now }
+    ensures leads { IsAtOwner event.now → (p q : CoreParts) → CommandLeads p result q → EventLeadsAnyhow p event.now q }
 {
     match event {
         Event::Turn(core) => Command::Turn(*core),
