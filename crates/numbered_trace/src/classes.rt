@@ -2,9 +2,9 @@
 
 use super::operations::{Operation, Operations};
 use super::stop::{Place, START, Stop, Tried, at, part, short};
+use flat_replay::{Access, Address};
 use mem_op::Word;
 use std::alloc::Global;
-use trace::{Access, Address};
 
 /// The stores of each class. The classes of an address stand side by side, that of the word 0 first.
 #[derive(Drop)]

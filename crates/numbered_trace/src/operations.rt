@@ -1,10 +1,10 @@
 //! The operations of all cores in one list.
 
 use super::stop::{NONE, Place, Stop, Tried, at, short};
+use flat_replay::Access;
 use mem_op::{CoreId, OpId, OpIndex};
 use std::alloc::Global;
 use std::ops::Range;
-use trace::Access;
 
 /// What a search knows of an operation, in 16 bytes. A class is an address with a word.
 #[derive(Clone, Copy)]

@@ -3,7 +3,8 @@
 ghost use Rattle.std.specs.Prelude.{IfOk};
 ghost use Rattle.refutation.specs.Answers.{IsRight, IsShown};
 
-use guessing::{SearchWatch, Unwatched};
+use super::finding::guess_watched;
+use numbered_trace::{SearchWatch, Unwatched};
 use refutation::{Answer, confirm};
 use std::alloc::{AllocError, Global};
 use trace::Trace;
@@ -34,12 +35,12 @@ pub fn search_watched<W: SearchWatch>(
         watch.found();
         return Ok(confirmed);
     }
-    let found = guessing::guess(alloc, trace, budget, watch);
+    let found = guess_watched(alloc, trace, budget, watch);
     watch.found();
     confirm(alloc, trace, found?)
 }
 
 /// What the search finds, before anybody has confirmed it. If it doesn't hold, the search has a bug: tests look for that.
 pub fn guess(alloc: Global, trace: &Trace, budget: u64) -> Result<Answer, AllocError> {
-    guessing::guess(alloc, trace, budget, &Unwatched)
+    guess_watched(alloc, trace, budget, &Unwatched)
 }

@@ -1,9 +1,9 @@
 //! Closed sets of states: none of their states is final, and whatever can be reached from one of them is in the set, too.
 
+use super::dead::Dead;
 use super::state::State;
 use super::visited::Visited;
 use numbered_trace::{Budget, Classes, Operations, Place, SearchWatch, Tried, at};
-use refutation::Numbers;
 use std::alloc::Global;
 
 /// By the fact of a number, one operation is before a later one.
@@ -17,11 +17,21 @@ pub struct Precedence {
     pub earlier: Place,
 }
 
+/// A state of a set.
+#[derive(Drop)]
+pub struct Reached {
+    /// For each core, the place of its next operation.
+    pub next: Vec<Place>,
+    /// For each address of the set, the class of its word.
+    pub words: Vec<u32>,
+    /// If nothing leads from the state to the end: for each core, the place at which it waits, or where its operations end.
+    pub limits: Option<Vec<Place>>,
+}
+
 /// All states of some operations that can be reached, as a walk comes to them.
 #[derive(Drop)]
 pub struct ClosedSet<'a> {
     alloc: Global,
-    classes: &'a Classes,
     /// The addresses of the set.
     addresses: &'a [u32],
     /// What is known to be before what, sorted.
@@ -30,8 +40,8 @@ pub struct ClosedSet<'a> {
     visited: Visited,
     /// The moves that weren't made yet: how many operations led to the state that a move starts from, and its core.
     moves: Vec<(usize, u32)>,
-    /// The states, as a refutation has them.
-    pub states: Vec<refutation::State>,
+    /// The states.
+    pub states: Vec<Reached>,
     /// The facts that kept some core from going on from them.
     pub used: Vec<u32>,
 }
@@ -49,7 +59,6 @@ impl<'a> ClosedSet<'a> {
     ) -> Tried<ClosedSet<'a>> {
         Ok(ClosedSet {
             alloc,
-            classes,
             addresses,
             known,
             state: State::new(alloc, operations, classes, cores, None)?,
@@ -93,20 +102,13 @@ impl<'a> ClosedSet<'a> {
         if !self.visited.insert(self.state.number)? {
             return Ok(());
         }
-        let words = self.words()?;
-        let next = self.indices(|core| at(&self.state.positions, core))?;
-        let Some(dead) = self.state.dead(ruined) else {
-            self.states.push(refutation::State::Open { next, words })?;
-            return self.enter_moves();
-        };
-        let limits = self.indices(|core| self.state.limit(dead, core))?;
-        Ok(
-            self.states.push(refutation::State::Dead {
-                next,
-                words,
-                limits,
-            })?,
-        )
+        let dead = self.state.dead(ruined);
+        if dead.is_none() {
+            self.enter_moves()?;
+        }
+        let reached = self.reached(dead)?;
+        self.states.push(reached)?;
+        Ok(())
     }
 
     /// Enters the moves from the state.
@@ -139,24 +141,33 @@ impl<'a> ClosedSet<'a> {
         None
     }
 
-    /// The words at the addresses of the set.
-    fn words(&self) -> Tried<Numbers> {
-        let words = self.addresses.iter().map(|address| {
-            let class = at(&self.state.memory, *address);
-            self.classes.words.get(class as usize).copied().unwrap_or(0)
-        });
-        Ok(Numbers::new(words.collect(self.alloc)?))
+    /// The classes of the words at the addresses of the set.
+    fn words(&self) -> Tried<Vec<u32>> {
+        let mut words = Vec::with_capacity(self.alloc, self.addresses.len())?;
+        for address in self.addresses {
+            words.push(at(&self.state.memory, *address))?;
+        }
+        Ok(words)
     }
 
-    /// For each core, the index of its operation at this place.
-    fn indices<F: Fn(u32) -> Place>(&self, place: F) -> Tried<Numbers>
-        requires { F.IsAlwaysCallable place }
-    {
-        let mut indices = Vec::with_capacity(self.alloc, self.state.cores.len())?;
+    /// The state as one of the set.
+    fn reached(&self, dead: Option<Dead>) -> Tried<Reached> {
+        Ok(Reached {
+            next: self.state.positions.to_vec(self.alloc)?,
+            words: self.words()?,
+            limits: self.limits(dead)?,
+        })
+    }
+
+    /// The limits of the cores, if the state is dead.
+    fn limits(&self, dead: Option<Dead>) -> Tried<Option<Vec<Place>>> {
+        let Some(dead) = dead else {
+            return Ok(None);
+        };
+        let mut limits = Vec::with_capacity(self.alloc, self.state.cores.len())?;
         for core in self.state.cores {
-            let start = at(&self.state.operations.starts, *core);
-            indices.push(u64::from(place(*core).saturating_sub(start)))?;
+            limits.push(self.state.limit(dead, *core))?;
         }
-        Ok(Numbers::new(indices))
+        Ok(Some(limits))
     }
 }

@@ -1,7 +1,6 @@
 //! A walk over the states of a trace: how far each core is, and what memory holds. Each state is visited once.
 #![tactic(auto)]
 
-mod clocks;
 mod closed;
 mod dead;
 mod groups;
@@ -13,7 +12,6 @@ mod tree;
 mod visited;
 mod walk;
 
-pub use clocks::Clocks;
-pub use closed::{ClosedSet, Precedence};
+pub use closed::{ClosedSet, Precedence, Reached};
 pub use groups::groups_of;
 pub use walk::Walk;

@@ -1,8 +1,7 @@
 //! A state, with the operations that led to it.
 
-use super::clocks::Clocks;
 use super::touches::Touches;
-use numbered_trace::{Classes, Operation, Operations, Place, Stop, Tried, at, put};
+use numbered_trace::{Classes, Clocks, Operation, Operations, Place, Stop, Tried, at, put};
 use std::alloc::Global;
 
 /// How many pairs of cores one step of the budget covers in a look at a state.

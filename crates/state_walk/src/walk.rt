@@ -1,10 +1,11 @@
 //! The walk.
 
-use super::clocks::Clocks;
 use super::state::State;
 use super::tree::{Node, Tree};
 use super::visited::Visited;
-use numbered_trace::{Budget, Classes, Operation, Operations, Place, SearchWatch, Tried, short};
+use numbered_trace::{
+    Budget, Classes, Clocks, Operation, Operations, Place, SearchWatch, Tried, short,
+};
 use std::alloc::Global;
 
 /// How many nodes a tree has at most: this many, and `NODES_EACH` more for each operation.

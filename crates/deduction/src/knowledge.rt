@@ -2,8 +2,9 @@
 
 use super::facts::{Facts, Reason};
 use super::stores::{Stores, count_first};
-use numbered_trace::{Budget, Classes, Conflict, CoreSet, Operations, Place, Stop, Tried, at};
-use state_walk::Clocks;
+use numbered_trace::{
+    Budget, Classes, Clocks, Conflict, CoreSet, Operations, Place, Stop, Tried, at,
+};
 use std::alloc::Global;
 use std::collections::VecDeque;
 
@@ -16,25 +17,25 @@ pub(crate) struct Risen {
 
 /// What is known of each order that keeps program order and in which each read has its word.
 #[derive(Drop)]
-pub(crate) struct Knowledge<'a> {
+pub struct Knowledge<'a> {
     pub(crate) alloc: Global,
     pub(crate) operations: &'a Operations,
     pub(crate) classes: &'a Classes,
     pub(crate) stores: Stores,
-    pub(crate) clocks: Clocks,
-    pub(crate) facts: Facts,
+    pub clocks: Clocks,
+    pub facts: Facts,
     /// For each core, the place of its first operation that hasn't come in.
     pub(crate) entered: Vec<Place>,
     /// The reads that came in with more than one candidate.
     pub(crate) open: Vec<Place>,
     /// The clocks that rose, and from which nothing was concluded yet.
     pub(crate) risen: VecDeque<Risen>,
-    pub(crate) budget: Budget,
+    pub budget: Budget,
 }
 
 impl<'a> Knowledge<'a> {
     /// Nothing is known of these operations, and none has come in.
-    pub(crate) fn new(
+    pub fn new(
         alloc: Global,
         operations: &'a Operations,
         classes: &'a Classes,
@@ -74,9 +75,13 @@ impl<'a> Knowledge<'a> {
 
     /// Each core's last store to a read's address that is known to be before the read, if it has one.
     pub(crate) fn last_stores(&self, read: Place) -> Tried<Vec<Place>> {
-        let cores = self.operations.cores();
-        let last = cores.filter_map(|core| self.last_store(read, core));
-        Ok(last.collect(self.alloc)?)
+        let mut last = Vec::new(self.alloc);
+        for core in self.operations.cores() {
+            if let Some(store) = self.last_store(read, core) {
+                last.push(store)?;
+            }
+        }
+        Ok(last)
     }
 
     /// Whether one store is known to be after another, so that it hides it from what comes later.
@@ -122,11 +127,15 @@ impl<'a> Knowledge<'a> {
 
     /// Notes that the clock of an operation rose for some cores, if for any.
     pub(crate) fn note(&mut self, place: Place, cores: CoreSet) -> Tried<()> {
-        match self.risen.back_mut() {
-            _ if cores == CoreSet::NONE => {}
-            Some(last) if last.place == place => last.cores.extend(cores),
-            _ => self.risen.push_back(Risen { place, cores })?,
+        if cores == CoreSet::NONE {
+            return Ok(());
         }
-        Ok(())
+        if let Some(last) = self.risen.back_mut()
+            && last.place == place
+        {
+            last.cores.extend(cores);
+            return Ok(());
+        }
+        Ok(self.risen.push_back(Risen { place, cores })?)
     }
 }

@@ -29,7 +29,7 @@ struct Cases<'a> {
 
 impl Knowledge<'_> {
     /// Concludes what follows. If that ends in a conflict, gives its proof: the lines, last one first.
-    pub(crate) fn refute<W: SearchWatch>(&mut self, watch: &W) -> Tried<Option<Vec<Line>>> {
+    pub fn refute<W: SearchWatch>(&mut self, watch: &W) -> Tried<Option<Vec<Line>>> {
         match self.saturate(watch) {
             Ok(()) => Ok(None),
             Err(Stop::Closed(conflict)) => {
@@ -58,7 +58,7 @@ impl Knowledge<'_> {
     }
 
     /// What shows these facts: its lines, last one first.
-    pub(crate) fn showing(&mut self, facts: &[u32]) -> Tried<Vec<Line>> {
+    pub fn showing(&mut self, facts: &[u32]) -> Tried<Vec<Line>> {
         let mut proof = Proof::new(self.alloc);
         proof.need(facts)?;
         self.show(&mut proof)?;
@@ -148,8 +148,10 @@ impl Knowledge<'_> {
 
     /// Whether a candidate lies in the range that is kept.
     fn is_kept(&self, cases: &Cases, store: Place) -> bool {
-        let kept = cases.kept;
-        kept.is_some_and(|(first, last)| self.lies_in(store, first, last))
+        match cases.kept {
+            Some((first, last)) => self.lies_in(store, first, last),
+            None => false,
+        }
     }
 
     /// How many of one core's first candidates are neither the read itself nor known to be after it.
@@ -172,13 +174,16 @@ impl Knowledge<'_> {
 
     /// Closes the cases of one core's candidates that are after the read, except the kept ones and the read itself.
     fn close_after(&mut self, cases: &mut Cases, stores: &[Place]) -> Tried<()> {
-        let mut closed = stores.iter().copied().filter(|store| *store != cases.read
-            && !self.is_kept(cases, *store));
-        let Some(first) = closed.next() else {
-            return Ok(());
-        };
-        let last = closed.last().unwrap_or(first);
-        if let Some(path) = self.chain(cases.read, first, cases.fact)? {
+        let mut closed = None;
+        for store in stores {
+            if *store != cases.read && !self.is_kept(cases, *store) {
+                let (first, _) = closed.unwrap_or((*store, *store));
+                closed = Some((first, *store));
+            }
+        }
+        if let Some((first, last)) = closed
+            && let Some(path) = self.chain(cases.read, first, cases.fact)?
+        {
             cases.ranges.push((first, last))?;
             cases.proof.close(cases.fact, path)?;
         }
@@ -187,8 +192,8 @@ impl Knowledge<'_> {
 
     /// Closes the cases of a run of one core's candidates, if the last of them is hidden from the read.
     fn close_hidden(&mut self, cases: &mut Cases, stores: &[Place]) -> Tried<()> {
-        if let [first, ..] = stores
-            && let [.., last] = stores
+        if let Some(first) = stores.first()
+            && let Some(last) = stores.last()
             && let Some((from_read, path)) = self.least_hiding(cases, *last)?
         {
             cases.ranges.push((*first, *last))?;

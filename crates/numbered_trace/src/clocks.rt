@@ -1,6 +1,8 @@
 //! What is known to be before each operation.
 
-use numbered_trace::{CoreSet, Operations, Place, Stop, Tried, at};
+use super::core_set::CoreSet;
+use super::operations::Operations;
+use super::stop::{Place, Stop, Tried, at};
 use std::alloc::Global;
 
 /// For each operation and each core, a place: the core's operations below it are before the operation, or are the operation itself.

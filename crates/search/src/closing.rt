@@ -1,8 +1,10 @@
 //! Closed sets of states.
 
+use super::states::{numbers_of, states_of};
+use deduction::Facts;
 use numbered_trace::{Budget, Classes, Operations, SearchWatch, Tried};
-use refutation::{Numbers, State, StateSet, Step};
-use state_walk::{ClosedSet, Precedence, Walk};
+use refutation::{StateSet, Step};
+use state_walk::{ClosedSet, Precedence, Reached, Walk};
 use std::alloc::Global;
 
 /// How much memory the states of a set may take, in bytes.
@@ -31,7 +33,7 @@ pub(crate) struct Closing<'a, W> {
 pub(crate) struct Closed {
     /// The numbers of its addresses.
     addresses: Vec<u32>,
-    states: Vec<State>,
+    states: Vec<Reached>,
     /// The facts under which it is closed.
     pub(crate) facts: Vec<u32>,
 }
@@ -122,15 +124,30 @@ impl<W: SearchWatch> Closing<'_, W> {
 
 impl Closed {
     /// The step that refutes a trace by the set.
-    pub(crate) fn step(self, alloc: Global, classes: &Classes) -> Tried<Step> {
-        let names = &classes.addresses;
-        let addresses = self.addresses.iter().map(|address| names
-            .get(*address as usize)
-            .copied()
-            .unwrap_or(0));
+    pub(crate) fn step(
+        &self,
+        alloc: Global,
+        operations: &Operations,
+        classes: &Classes,
+    ) -> Tried<Step> {
+        let states = states_of(alloc, operations, classes, &self.states)?;
         Ok(Step::States {
-            addresses: Numbers::new(addresses.collect(alloc)?),
-            set: StateSet::new(self.states),
+            addresses: numbers_of(alloc, &classes.addresses, &self.addresses)?,
+            set: StateSet::new(states),
         })
     }
+}
+
+/// What is before what, as facts say, sorted.
+pub(crate) fn precedences(alloc: Global, facts: &Facts) -> Tried<Vec<Precedence>> {
+    let mut precedences = Vec::with_capacity(alloc, facts.all.len())?;
+    for (fact, number) in facts.all.iter().zip(0..=u32::MAX) {
+        precedences.push(Precedence {
+            later: fact.later,
+            fact: number,
+            earlier: fact.earlier,
+        })?;
+    }
+    precedences.sort_unstable();
+    Ok(precedences)
 }

@@ -6,7 +6,7 @@ use std::collections::BTreeSet;
 
 /// By which rule a fact follows.
 #[derive(Clone, Copy, PartialEq, Eq)]
-pub(crate) enum Rule {
+pub enum Rule {
     /// A read is before a store that is after its source.
     FromRead,
     /// A store before a read is before its source.
@@ -15,20 +15,20 @@ pub(crate) enum Rule {
 
 /// How a fact follows from the source of a read and a path.
 #[derive(Drop)]
-pub(crate) struct Derived {
-    pub(crate) rule: Rule,
+pub struct Derived {
+    pub rule: Rule,
     /// The fact that says where the source is.
-    pub(crate) source: u32,
+    pub source: u32,
     /// A store other than the source: the path leads from the source to it, or from it to the read.
-    pub(crate) store: Place,
-    pub(crate) path: Vec<u32>,
+    pub store: Place,
+    pub path: Vec<u32>,
     /// The number of what follows.
-    pub(crate) fact: u32,
+    pub fact: u32,
 }
 
 /// A step of a proof. Its facts have the numbers that the search gave them.
 #[derive(Drop)]
-pub(crate) enum Line {
+pub enum Line {
     /// The source of a read lies in one of these ranges: a case for each, which begins with a fact of this number.
     Read(Place, Vec<(Place, Place)>, u32),
     /// A fact follows.

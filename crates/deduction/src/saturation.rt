@@ -13,7 +13,7 @@ const PAIRS: u64 = 20;
 
 impl Knowledge<'_> {
     /// Lets all operations come in, the cores in turns, and concludes what follows.
-    pub(crate) fn saturate<W: SearchWatch>(&mut self, watch: &W) -> Tried<()> {
+    pub fn saturate<W: SearchWatch>(&mut self, watch: &W) -> Tried<()> {
         for _ in 0..self.operations.all.len() {
             self.budget.tell(watch)?;
             if !self.enter_turn()? && !self.enter_any()? {
@@ -39,17 +39,21 @@ impl Knowledge<'_> {
 
     /// Lets the next operation of some core come in when all of them wait: there is a cycle, which will show. Says whether one came.
     fn enter_any(&mut self) -> Tried<bool> {
-        let mut cores = self.operations.cores();
-        let next = cores.find_map(|core| self.operations.next(&self.entered, core));
-        if let Some((place, _)) = next {
-            self.enter(place)?;
+        for core in self.operations.cores() {
+            if let Some((place, _)) = self.operations.next(&self.entered, core) {
+                self.enter(place)?;
+                return Ok(true);
+            }
         }
-        Ok(next.is_some())
+        Ok(false)
     }
 
     /// Whether the only source that a read can have hasn't come in.
     fn waits_for_source(&self, read: Place, operation: &Operation) -> bool {
-        matches!(self.classes.candidates(operation), [source] if *source != read && !self.has_entered(*source))
+        match self.classes.candidates(operation) {
+            [source] => *source != read && !self.has_entered(*source),
+            _ => false,
+        }
     }
 
     /// Lets an operation come in, and concludes what follows.
@@ -65,16 +69,27 @@ impl Knowledge<'_> {
             self.stores.activate(operation.address, core)?;
         }
         if operation.read().is_some() {
-            let candidates = self.classes.candidates(&operation).iter().copied();
-            let mut others = candidates.filter(|store| *store != place);
-            match (others.next(), others.next()) {
-                (None, _) => return Err(Stop::Closed(Conflict::NoSource(place))),
-                (Some(source), None) => self.set_source(place, source, source)?,
-                _ => self.open.push(place)?,
-            }
+            self.enter_read(place, &operation)?;
         }
         self.note(place, CoreSet::ALL)?;
         self.conclude()
+    }
+
+    /// Lets a read come in. Its source is known if it has one candidate beside itself.
+    fn enter_read(&mut self, read: Place, operation: &Operation) -> Tried<()> {
+        let mut only = None;
+        for store in self.classes.candidates(operation) {
+            if *store != read {
+                if only.is_some() {
+                    return Ok(self.open.push(read)?);
+                }
+                only = Some(*store);
+            }
+        }
+        match only {
+            None => Err(Stop::Closed(Conflict::NoSource(read))),
+            Some(source) => self.set_source(read, source, source),
+        }
     }
 
     /// Concludes what follows from the clocks that rose, until nothing more does.
@@ -156,18 +171,21 @@ impl Knowledge<'_> {
         let hiding = self.last_stores(read)?;
         let mut left = None;
         for core in self.operations.cores() {
-            left = match (left, self.left_of(read, core, &hiding)) {
-                (left, []) => left,
-                (None, [only]) => Some((*only, *only)),
-                (None, [first, .., last]) => Some((*first, *last)),
-                (Some((START, START)), [.., last]) => Some((START, *last)),
-                _ => return Ok(None),
-            };
+            let own = self.left_of(read, core, &hiding);
+            if let Some(first) = own.first()
+                && let Some(last) = own.last()
+            {
+                left = match left {
+                    None => Some((*first, *last)),
+                    Some((START, START)) => Some((START, *last)),
+                    Some(_) => return Ok(None),
+                };
+            }
         }
-        match left {
-            None => Err(Stop::Closed(Conflict::NoSource(read))),
-            left => Ok(left),
+        if left.is_none() {
+            return Err(Stop::Closed(Conflict::NoSource(read)));
         }
+        Ok(left)
     }
 
     /// A core's candidates of a read that aren't excluded, if `hiding` are the last stores before the read.
@@ -176,11 +194,19 @@ impl Knowledge<'_> {
         let stores = self
             .classes
             .candidates_of(&operation, self.operations, core);
-        let from = stores.partition_point(|store| hiding
-            .iter()
-            .any(|last| self.hides(*last, *store)));
+        let from = stores.partition_point(|store| self.is_hidden(*store, hiding));
         let to = stores.partition_point(|store| !self.is_before(read, *store));
         cut(stores, from, to)
+    }
+
+    /// Whether one of these stores hides another.
+    fn is_hidden(&self, store: Place, hiding: &[Place]) -> bool {
+        for last in hiding {
+            if self.hides(*last, store) {
+                return true;
+            }
+        }
+        false
     }
 }
 

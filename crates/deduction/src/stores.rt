@@ -17,9 +17,12 @@ pub(crate) struct Stores {
 impl Stores {
     /// The stores of these operations, to this many addresses. None is active.
     pub(crate) fn new(alloc: Global, operations: &Operations, addresses: u32) -> Tried<Stores> {
-        let all = 0..short(operations.all.len())?;
-        let stored = all.filter(|place| operations.get(*place).stored().is_some());
-        let mut places: Vec<Place> = stored.collect(alloc)?;
+        let mut places = Vec::new(alloc);
+        for (operation, place) in operations.all.iter().zip(0..=u32::MAX) {
+            if operation.stored().is_some() {
+                places.push(place)?;
+            }
+        }
         places.sort_unstable_by_key(|place| (operations.get(*place).address, *place));
         let cores = operations.cores().end;
         let mut starts = Vec::new(alloc);

@@ -4,12 +4,12 @@
 
 use super::knowledge::Knowledge;
 use super::proof::Line;
+use flat_replay::Access;
 use numbered_trace::{
     Budget, Classes, Operations, Place, START, SearchWatch, Stop, Tried, Unwatched, at, number,
     short,
 };
 use std::alloc::Global;
-use trace::Access;
 
 /// How many operations a small trace has at most.
 const LIMIT: usize = 3000;
@@ -37,7 +37,7 @@ struct Shrinking<'a> {
 
 /// A proof no longer than this one for the trace of these cores: its lines, last one first, and the list by whose numbers
 /// they name operations.
-pub(crate) fn shrink<W: SearchWatch>(
+pub fn shrink<W: SearchWatch>(
     cores: &[Vec<Access>],
     known: &mut Knowledge,
     best: Vec<Line>,

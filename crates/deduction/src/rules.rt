@@ -33,8 +33,12 @@ impl Knowledge<'_> {
             self.stores.active(address, core)
         };
         let count = count_first(stores, |store| !self.is_before(source, store));
-        let mut later = stores.get(count..)?.iter().copied();
-        later.find(|store| *store != source && *store != read)
+        for store in stores.get(count..)? {
+            if *store != source && *store != read {
+                return Some(*store);
+            }
+        }
+        None
     }
 
     /// Adds that these cores' stores before a read are before its source. The read's clock rose for these cores.
@@ -42,8 +46,9 @@ impl Knowledge<'_> {
         let Some((number, _, source)) = self.facts.source(read) else {
             return Ok(());
         };
-        for core in self.operations.cores().filter(|core| cores.contains(*core)) {
+        for core in self.operations.cores() {
             if source != START
+                && cores.contains(core)
                 && let Some(store) = self.last_store(read, core)
             {
                 self.learn(store, source, number)?;
@@ -61,9 +66,10 @@ impl Knowledge<'_> {
             return Ok(());
         }
         let own = self.last_store(store, operation.core());
-        for core in self.operations.cores().filter(|core| cores.contains(*core)) {
-            if let Some(last) = self.last_store(store, core)
-                && own.is_none_or(|own| own == last || !self.is_before(last, own))
+        for core in self.operations.cores() {
+            if cores.contains(core)
+                && let Some(last) = self.last_store(store, core)
+                && !own.is_some_and(|own| self.hides(own, last))
             {
                 self.order_readers(last, store)?;
             }

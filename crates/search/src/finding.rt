@@ -1,14 +1,13 @@
 //! Finds an order of a trace, or a refutation: tries the ways to search one after the other.
 
-use super::closing::Closing;
-use super::knowledge::Knowledge;
+use super::closing::{Closing, precedences};
 use super::numbering::steps;
-use super::shrinking::shrink;
+use deduction::{Knowledge, shrink};
 use numbered_trace::{
-    Budget, Classes, Operations, Place, SearchWatch, Stop, Tried, id, number, short,
+    Budget, Classes, Clocks, Operations, Place, SearchWatch, Stop, Tried, id, number, short,
 };
 use refutation::{Answer, Refutation};
-use state_walk::{Clocks, Walk, groups_of};
+use state_walk::{Walk, groups_of};
 use std::alloc::{AllocError, Global};
 use trace::Trace;
 
@@ -19,7 +18,7 @@ const FIRST_EACH: u64 = 40;
 
 /// An order of a trace's operations or a refutation, which nobody has confirmed yet; undecided if it finds neither within
 /// this many steps. It tells a watch how far it is. Err if memory was refused.
-pub fn guess<W: SearchWatch>(
+pub(crate) fn guess_watched<W: SearchWatch>(
     alloc: Global,
     trace: &Trace,
     budget: u64,
@@ -181,7 +180,7 @@ impl<'a, W: SearchWatch> Finding<'a, '_, W> {
     /// A refutation by a closed set of states in which moves wait for what is known, if it finds one. If the walk came to all states, nothing else is
     /// left to try, so this gets more of the steps.
     fn close(&mut self, walk: &mut Walk, known: &mut Knowledge) -> Tried<Option<Answer>> {
-        let precedences = known.facts.precedences(self.alloc)?;
+        let precedences = precedences(self.alloc, &known.facts)?;
         let cores: Vec<u32> = self.operations.cores().collect(self.alloc)?;
         let closing = Closing {
             alloc: self.alloc,
@@ -200,7 +199,7 @@ impl<'a, W: SearchWatch> Finding<'a, '_, W> {
         let places = 0..short(self.operations.all.len())?;
         let places: Vec<Place> = places.collect(self.alloc)?;
         let mut steps = steps(self.alloc, self.operations, &places, &lines)?;
-        steps.push(closed.step(self.alloc, self.classes)?)?;
+        steps.push(closed.step(self.alloc, self.operations, self.classes)?)?;
         Ok(Some(Answer::Refutation(Refutation::new(steps))))
     }
 

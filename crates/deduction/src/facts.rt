@@ -1,7 +1,6 @@
 //! What is known to be before what, and why.
 
 use numbered_trace::{NONE, Place, Tried, at, put, short};
-use state_walk::Precedence;
 use std::alloc::Global;
 
 /// Why a fact holds.
@@ -15,9 +14,9 @@ pub(crate) enum Reason {
 
 /// That one operation is before another. It takes 20 bytes.
 #[derive(Clone, Copy)]
-pub(crate) struct Fact {
-    pub(crate) earlier: Place,
-    pub(crate) later: Place,
+pub struct Fact {
+    pub earlier: Place,
+    pub later: Place,
     /// The last fact before this one that has the same earlier operation, or NONE.
     pub(crate) next: u32,
     pub(crate) reason: Reason,
@@ -25,8 +24,8 @@ pub(crate) struct Fact {
 
 /// All facts, numbered in the order in which they were found.
 #[derive(Drop)]
-pub(crate) struct Facts {
-    pub(crate) all: Vec<Fact>,
+pub struct Facts {
+    pub all: Vec<Fact>,
     /// For each operation, the last fact in which it is the earlier one, or NONE.
     latest: Vec<u32>,
     /// For each read, the last fact that says where its source lies, or NONE.
@@ -60,20 +59,6 @@ impl Facts {
             Reason::Source(last) => Some((number, fact.earlier, last)),
             _ => None,
         }
-    }
-
-    /// What is before what, as the facts say, sorted.
-    pub(crate) fn precedences(&self, alloc: Global) -> Tried<Vec<Precedence>> {
-        let mut precedences = Vec::with_capacity(alloc, self.all.len())?;
-        for (fact, number) in self.all.iter().zip(0..=u32::MAX) {
-            precedences.push(Precedence {
-                later: fact.later,
-                fact: number,
-                earlier: fact.earlier,
-            })?;
-        }
-        precedences.sort_unstable();
-        Ok(precedences)
     }
 
     /// Whether it is known which a read's source is.

@@ -3,7 +3,6 @@
 use super::knowledge::Knowledge;
 use numbered_trace::{NONE, Place, START, Tried, at, put};
 use std::alloc::Global;
-use std::iter::successors;
 
 /// How many places of a core one step of the budget covers.
 pub(crate) const PLACES: u64 = 16;
@@ -60,16 +59,26 @@ impl Knowledge<'_> {
 
     /// Follows the facts that lead on from the places of a hop. Says whether it reached the end.
     fn go_from(&self, way: &mut Way, from: u32, hop: Hop) -> Tried<bool> {
-        let facts = &self.facts;
-        let led = (hop.place..hop.until).flat_map(|place| {
-            let led = successors(facts.latest(place), move |(_, fact)| facts.get(fact.next));
-            led.take(facts.all.len())
-        });
-        for (number, fact) in led {
+        for place in hop.place..hop.until {
+            if self.go_from_place(way, from, place)? {
+                return Ok(true);
+            }
+        }
+        Ok(false)
+    }
+
+    /// Follows the facts that lead on from one place of a hop. Says whether it reached the end.
+    fn go_from_place(&self, way: &mut Way, from: u32, place: Place) -> Tried<bool> {
+        let mut next = self.facts.latest(place);
+        for _ in 0..self.facts.all.len() {
+            let Some((number, fact)) = next else {
+                break;
+            };
             let core = self.operations.core(fact.later);
             if number < way.limit && way.hop(fact.later, core, number, from)? {
                 return Ok(true);
             }
+            next = self.facts.get(fact.next);
         }
         Ok(false)
     }

@@ -1,6 +1,6 @@
 //! Turns a proof that no order exists into a refutation, which names facts by their places among those in force.
 
-use super::proof::{Derived, Line, Rule};
+use deduction::{Derived, Line, Rule};
 use mem_op::OpId;
 use numbered_trace::{Operations, Place, START, Stop, Tried, at, id};
 use refutation::{Path, Point, Range, Ranges, Step};
@@ -33,8 +33,11 @@ pub(crate) fn steps(
         facts: Vec::new(alloc),
         waiting: Vec::new(alloc),
     };
-    let steps = reversed.iter().rev().map(|line| numbering.step(line));
-    steps.try_collect(alloc)
+    let mut steps = Vec::with_capacity(alloc, reversed.len())?;
+    for line in reversed.iter().rev() {
+        steps.push(numbering.step(line)?)?;
+    }
+    Ok(steps)
 }
 
 impl Numbering<'_> {
@@ -44,10 +47,9 @@ impl Numbering<'_> {
             Line::Derived(derived) => return self.derived(derived),
             Line::Read(read, ranges, fact) => {
                 self.wait(ranges.len(), *fact)?;
-                let ranges = ranges.iter().map(|range| self.range(*range));
                 Step::Read {
                     read: self.id(*read)?,
-                    ranges: Ranges::new(ranges.try_collect(self.alloc)?),
+                    ranges: self.ranges(ranges)?,
                 }
             }
             Line::Cycle(path) => Step::Cycle {
@@ -100,10 +102,14 @@ impl Numbering<'_> {
         Ok(Point::At(self.id(number)?))
     }
 
-    /// The range of a case of a read.
-    fn range(&self, (first, last): (Place, Place)) -> Tried<Range> {
-        let (first, last) = (self.point(first)?, self.point(last)?);
-        Ok(Range { first, last })
+    /// The ranges of the cases of a read.
+    fn ranges(&self, places: &[(Place, Place)]) -> Tried<Ranges> {
+        let mut ranges = Vec::with_capacity(self.alloc, places.len())?;
+        for (first, last) in places {
+            let (first, last) = (self.point(*first)?, self.point(*last)?);
+            ranges.push(Range { first, last })?;
+        }
+        Ok(Ranges::new(ranges))
     }
 
     /// The place of a fact among those in force.
@@ -114,7 +120,10 @@ impl Numbering<'_> {
 
     /// The path by these facts.
     fn path(&self, facts: &[u32]) -> Tried<Path> {
-        let numbers = facts.iter().map(|fact| self.number(*fact));
-        Ok(Path::new(numbers.try_collect(self.alloc)?))
+        let mut numbers = Vec::with_capacity(self.alloc, facts.len())?;
+        for fact in facts {
+            numbers.push(self.number(*fact)?)?;
+        }
+        Ok(Path::new(numbers))
     }
 }
