@@ -110,6 +110,12 @@ same_left old new (Read file) same = inl same
 same_left old new OutOfMemory same = inl same
 same_left old new other same = same
 
+-- however it is left, it was only read
+pub left_read : (old new : Files) (fault : JudgeFault) → IsLeft old new fault → IsOnlyRead old new
+left_read old new (Read file) left = left
+left_read old new OutOfMemory left = left
+left_read old new other left = inl left
+
 -- the set has a fault
 pub faulty : (told : List ℕ → Option (List ℕ)) (unread : List ℕ → Type 0) (names : List (Bor (List ℕ))) (texts : List (List ℕ)) (file : ℕ) (fault : LogFault) → IsInRange (length names)
     → AreTextsOf told names texts → IsSetFault texts file fault → (fault ≡ ReadFailed → IsUnreadAt unread names file)

@@ -23,6 +23,7 @@ use Rattle.verdict.specs.declared.judge_fault.JudgeFault.{JudgeFault}
 use Rattle.verdict.specs.declared.judge_fault.JudgeFault.TheVariants.{Read}
 use Rattle.commands.proofs.Checks.{nowhere}
 use Rattle.commands.proofs.Files.{keeps_files, keeps_told}
+use Rattle.commands.proofs.LogFiles.{left_read}
 use Rattle.commands.specs.Checking.{IsChecked}
 use Rattle.commands.specs.Confirming.{IsConfirmed}
 use Rattle.commands.specs.Explaining.{IsExplained}
@@ -155,7 +156,7 @@ module _ (old new : Files) (Unreadable : List ℕ → Type 0) (out out' : Sink) 
   -- ---- upgrade
 
   upgrade_kept : (asked : Upgrade) (refusal : Refusal) → IsUpgraded old new Unreadable asked (Err refusal) → ComesFirst refusal → new.told ≡ old.told
-  upgrade_kept asked (Judge fault) is first = keeps_told old new is.1
+  upgrade_kept asked (Judge fault) is first = keeps_told old new (left_read old new fault is.1)
   upgrade_kept asked (LogUnwritten file) is first = absurd first
   upgrade_kept asked OutOfMemory is first = absurd first
   upgrade_kept asked other is first = absurd is
@@ -277,6 +278,8 @@ module _ (old new : Files) (Unreadable : List ℕ → Type 0) (out out' : Sink) 
   search_kept asked Undecided is first = same_told is.1
   search_kept asked (Unwritten place) is first = absurd first
   search_kept asked OutOfMemory is first = absurd first
+  search_kept asked (Unread input.Names) is first = keeps_told old new is.1
+  search_kept asked (Unread place) is first = keeps_told old new is.1
   search_kept asked other is first = keeps_told old new is.1
 
   search_unread : (asked : Search) (refusal : Refusal) → IsSearched old new Unreadable asked (Err refusal) → IsUnreadThere Unreadable (request.Search asked) refusal

@@ -24,3 +24,9 @@ returns-in_err-parse-clause-err g c =
     let is : c.from_residual.result ≡ Err (from_names c.in_err-parse.field-0.0) = search rules in
     rw (is, c.in-Some.is) (nameless old.told (IsUnread g.F.Source.ByteSource.remaining g.F.Source.ByteSource.failed old (files c.read_text.new.folder)) c.in-Some.name
     c.as_slice.result.now c.in_err-parse.field-0.0 tells c.in_err-parse.ensures)
+
+pub returns-clause-ok : goal.returns-clause-ok
+returns-clause-ok g c =
+    let old = g.F.Folder.files c.args.folder.now in
+    let tells : Tells (old.told c.in-Some.name.now) c.as_slice.result.now = search rules in
+    rw c.in-Some.is (c.as_slice.result.now, tells, (c.in_ok-parse.field-0, c.in_ok-parse.ensures))
