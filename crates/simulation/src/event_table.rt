@@ -59,11 +59,7 @@ struct Step<'a> {
 
 /// The table of the events that a machine of these programs has kept from its start on: comma-separated values, a line for
 /// the columns and one for each event. Err if memory was refused, now or before, when an event was to be kept.
-pub fn print_events(
-    alloc: Global,
-    programs: &ProgramSet,
-    run: &Core,
-) -> Result<Vec<u8>, AllocError>
+pub fn print_events(alloc: Global, programs: &ProgramSet, run: &Core) -> Result<Vec<u8>, AllocError>
     ensures { IfOk result (λ text. IsTable run.now text.items) }
 {
     let Some(events) = run.events() else {
