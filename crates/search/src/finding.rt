@@ -18,7 +18,7 @@ const FIRST_EACH: u64 = 40;
 
 /// An order of a trace's operations or a refutation, which nobody has confirmed yet; undecided if it finds neither within
 /// this many steps. It tells a watch how far it is. Err if memory was refused.
-pub(crate) fn guess_watched<W: SearchWatch>(
+pub(crate) fn guess<W: SearchWatch>(
     alloc: Global,
     trace: &Trace,
     budget: u64,

@@ -8,4 +8,4 @@ mod searching;
 mod states;
 
 pub use numbered_trace::{SearchWatch, Unwatched};
-pub use searching::{guess, search, search_watched};
+pub use searching::{search, search_watched};

@@ -3,7 +3,7 @@
 ghost use Rattle.std.specs.Prelude.{IfOk};
 ghost use Rattle.refutation.specs.Answers.{IsRight, IsShown};
 
-use super::finding::guess_watched;
+use super::finding::guess;
 use numbered_trace::{SearchWatch, Unwatched};
 use refutation::{Answer, confirm};
 use std::alloc::{AllocError, Global};
@@ -35,12 +35,7 @@ pub fn search_watched<W: SearchWatch>(
         watch.found();
         return Ok(confirmed);
     }
-    let found = guess_watched(alloc, trace, budget, watch);
+    let found = guess(alloc, trace, budget, watch);
     watch.found();
     confirm(alloc, trace, found?)
-}
-
-/// What the search finds, before anybody has confirmed it. If it doesn't hold, the search has a bug: tests look for that.
-pub fn guess(alloc: Global, trace: &Trace, budget: u64) -> Result<Answer, AllocError> {
-    guess_watched(alloc, trace, budget, &Unwatched)
 }
