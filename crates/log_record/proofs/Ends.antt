@@ -9,7 +9,7 @@ use Rattle.decimal_text.specs.Numbers.{numeral, as_u64}
 use Rattle.decimal_text.specs.Reading.{◌>>=◌, number_at, after, last_number}
 use Rattle.log_record.specs.Line.{format_number, header_text, end_text, IsSomeHeader, IsEndShape}
 use Rattle.log_record.specs.inner.Reading.{first_words, header_numbers, header_of, end_of}
-use Rattle.log_record.specs.inner.Raw.{header_parts, end_parts}
+use Rattle.log_record.specs.inner.Kept.{header_parts, end_parts}
 use Rattle.decimal_text.proofs.Numbers.{number_takes, number_again, after_takes, after_again}
 use Rattle.decimal_text.proofs.Reading.{bind_some, some_is, last_takes, last_again}
 

@@ -7,8 +7,8 @@ use Rattle.mem_op.specs.declared.id.Source.{Source}
 use Rattle.mem_op.specs.declared.id.Source.TheVariants as source
 use Rattle.log_record.specs.declared.act.Act.{Act}
 use Rattle.log_record.specs.declared.act.Act.TheVariants as act
-use Rattle.log_record.specs.declared.raw.Letter.{Letter}
-use Rattle.log_record.specs.declared.raw.Letter.TheVariants as letter
+use Rattle.log_record.specs.declared.reading.Letter.{Letter}
+use Rattle.log_record.specs.declared.reading.Letter.TheVariants as letter
 use Rattle.log_record.specs.declared.record.Record.{Record}
 use Rattle.decimal_text.specs.Numbers.{numeral}
 use Rattle.decimal_text.specs.Reading.{◌>>=◌, number_at, after, field_at, is_digit}

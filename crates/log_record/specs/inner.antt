@@ -1,6 +1,6 @@
 -- Definitions that serve private contracts alone.
 pub mod Buffers
 pub mod FlatActs
-pub mod Raw
+pub mod Kept
 pub mod Reading
 pub mod Tags

@@ -3,7 +3,7 @@
 ghost use Rattle.std.specs.Prelude.{◌≡◌, ℕ, IfOk, IfSome, IsNone, option_map, string_bytes};
 ghost use Rattle.log_record.specs.Line.{end_text, IsEndShape};
 ghost use Rattle.decimal_text.specs.Numbers.{as_u64};
-ghost use Rattle.log_record.specs.inner.Raw.{end_parts};
+ghost use Rattle.log_record.specs.inner.Kept.{end_parts};
 ghost use Rattle.log_record.specs.inner.Reading.{end_of};
 
 use decimal_text::{after_text, read_last};

@@ -4,7 +4,7 @@ ghost use Rattle.std.specs.Prelude.{◌≡◌, ℕ, IfOk, IfSome, IsNone, option
 ghost use Rattle.log_record.specs.Line.{format_number, header_text, IsSomeHeader};
 ghost use Rattle.decimal_text.specs.Numbers.{as_u64};
 ghost use Rattle.decimal_text.specs.Reading.{front_now};
-ghost use Rattle.log_record.specs.inner.Raw.{header_parts};
+ghost use Rattle.log_record.specs.inner.Kept.{header_parts};
 ghost use Rattle.log_record.specs.inner.Reading.{first_words, header_numbers, header_of};
 
 use super::format::Format;

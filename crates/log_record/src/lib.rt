@@ -9,8 +9,6 @@ mod header;
 mod laws;
 mod line;
 mod line_buffer;
-mod range;
-mod raw;
 mod reading;
 mod record;
 

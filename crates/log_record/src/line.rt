@@ -2,16 +2,12 @@
 
 ghost use Rattle.std.specs.Prelude.{◌≡◌, IfOk, IsErrOf, IsTrue, Some, string_bytes};
 ghost use Rattle.log_record.specs.Line.{record_text, source_text, has_act, IsRecordShape, Fits, FitsIn};
-ghost use Rattle.log_record.specs.declared.act.Act.{Act};
-ghost use Rattle.log_record.specs.inner.Raw.{raw_act_of};
 ghost use Rattle.log_record.specs.declared.record.Record.{Record};
 
 use super::act::Act;
 use super::fault::LineFault;
 use super::format::Format;
-use super::range::in_range;
-use super::raw::RawAct;
-use super::reading::raw_record;
+use super::reading::whole_record;
 use super::record::Record;
 use mem_op::Source;
 use std::alloc::{AllocError, Global};
@@ -69,14 +65,15 @@ pub fn print_line(alloc: Global, logged: &Record) -> Result<String, AllocError>
     logged.to_string(alloc)
 }
 
-// Whether a log of this format may have a record of this act, whatever the size of its numbers.
+// Whether a record's line may begin like this in a log of this format: one of format 1 has no swaps.
 #[inline(always)]
-fn has_raw(format: Format, act: RawAct) -> bool
-    ensures { (a : Act) → act ≡ raw_act_of a → result ≡ has_act format a }
+#[tactic(auto, unfolding(crate::specs::Line::record_text))]
+fn may_begin(format: Format, line: &[u8]) -> bool
+    ensures { (r : Record) → line.now ≡ record_text r → result ≡ has_act format r.act }
 {
-    match act {
-        RawAct::Load(_) | RawAct::Store => true,
-        RawAct::Swap(..) => format == Format::Two,
+    match line {
+        [b'X', ..] => format == Format::Two,
+        _ => true,
     }
 }
 
@@ -84,21 +81,19 @@ fn has_raw(format: Format, act: RawAct) -> bool
 /// line there, whatever the size of its numbers; OutOfRange if it is the line of a record with a number
 /// out of range.
 #[inline(always)]
-#[tactic(auto, using(crate::proofs::Raws::out_of_range, crate::proofs::Raws::found))]
+#[tactic(auto, using(crate::proofs::Kept::found))]
 pub fn read_line(format: Format, line: &[u8]) -> Result<Record, LineFault>
     ensures found { IfOk result (λ r. (line.now ≡ record_text r) × FitsIn format r) }
     ensures bad { IsErrOf result LineFault.BadLine → ¬ IsRecordShape format line.now }
     ensures range { IsErrOf result LineFault.OutOfRange →
         (r : Record) × (line.now ≡ record_text r) × IsTrue (has_act format r.act) × (¬ Fits r) }
 {
-    let Some(raw) = raw_record(line) else {
-        return Err(LineFault::BadLine);
-    };
-    if !has_raw(format, raw.act) {
+    if !may_begin(format, line) {
         return Err(LineFault::BadLine);
     }
-    match in_range(raw) {
-        None => Err(LineFault::OutOfRange),
-        Some(read) => Ok(read),
+    match whole_record(line) {
+        None => Err(LineFault::BadLine),
+        Some(None) => Err(LineFault::OutOfRange),
+        Some(Some(read)) => Ok(read),
     }
 }

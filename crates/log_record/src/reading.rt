@@ -1,53 +1,70 @@
 //! Reads a record's line from left to right. All of it is inlined into one function, so that the parts of a line
-//! stay in registers.
+//! stay in registers. What has a number out of range is None, and the reading goes on, since the line may yet not
+//! have a record's shape.
 
-ghost use Rattle.std.specs.Prelude.{◌≡◌, option_map};
+ghost use Rattle.std.specs.Prelude.{◌≡◌, ℕ, option_and_then, option_map};
+ghost use Rattle.decimal_text.specs.Numbers.{as_u64};
 ghost use Rattle.decimal_text.specs.Reading.{front_now, front_map};
-ghost use Rattle.log_record.specs.inner.Raw.{raw_source_of, raw_act_of, raw_fields_of, raw_of};
-ghost use Rattle.log_record.specs.inner.Reading.{store_source_at, source_at, fields_at, letter_at, act_at, lettered_at, record_of};
+ghost use Rattle.mem_op.specs.declared.id.Source.{Source};
+ghost use Rattle.log_record.specs.declared.act.Act.TheVariants.{Load, Swap};
+ghost use Rattle.log_record.specs.declared.record.Record.{Record};
+ghost use Rattle.log_record.specs.inner.Kept.{source_kept, act_kept, record_kept};
+ghost use Rattle.log_record.specs.inner.Reading.{store_source_at, source_at, letter_at, act_at, lettered_at, record_of};
 
-use super::raw::{Letter, RawAct, RawFields, RawRecord, RawSource};
+use super::act::FlatAct;
+use super::record::Record;
 use decimal_text::{after_text, read_field, read_number};
+use line_stamps::{Rank, Stamp};
+use mem_op::{Addr, CoreId, OpId, OpIndex, Source};
+
+/// The letter with which a record's line begins: its act.
+#[derive(Clone, Copy, Debug, PartialEq, Eq)]
+pub(crate) enum Letter {
+    Store,
+    Load,
+    Swap,
+}
+
+/// The store of this core and index, if they are in range.
+#[inline(always)]
+#[tactic(auto, unfolding(crate::specs::inner::Kept::source_kept))]
+fn store_in_range(core: Option<u64>, index: Option<u64>) -> Option<Source>
+    ensures { (c i : ℕ) → core ≡ as_u64 c → index ≡ as_u64 i
+        → result ≡ source_kept (Source.Store (record { core = c; index = i })) }
+{
+    Some(Source::Store(OpId {
+        core: CoreId::new(core?).ok()?,
+        index: OpIndex::new(index?).ok()?,
+    }))
+}
 
 /// A core, a dot and an index.
 #[inline(always)]
 #[tactic(auto, unfolding(crate::specs::inner::Reading::store_source_at))]
-fn store_source(bytes: &[u8]) -> Option<(RawSource, &[u8])>
-    ensures { front_now result ≡ front_map raw_source_of (store_source_at bytes.now) }
+fn store_source(bytes: &[u8]) -> Option<(Option<Source>, &[u8])>
+    ensures { front_now result ≡ front_map source_kept (store_source_at bytes.now) }
 {
     let (core, rest) = read_field(b'.', bytes)?;
     let (index, rest) = read_number(rest)?;
-    Some((RawSource::Store(core, index), rest))
+    Some((store_in_range(core, index), rest))
 }
 
 /// A source, and the bytes after it.
 #[inline(always)]
-#[tactic(auto, unfolding(crate::specs::inner::Reading::source_at, decimal_text::specs::Reading::after))]
-fn source(bytes: &[u8]) -> Option<(RawSource, &[u8])>
-    ensures { front_now result ≡ front_map raw_source_of (source_at bytes.now) }
+#[tactic(auto, unfolding(crate::specs::inner::Reading::source_at, crate::specs::inner::Kept::source_kept, decimal_text::specs::Reading::after))]
+fn source(bytes: &[u8]) -> Option<(Option<Source>, &[u8])>
+    ensures { front_now result ≡ front_map source_kept (source_at bytes.now) }
 {
     match bytes {
-        [b'i', b'n', b'i', b't', rest @ ..] => Some((RawSource::Init, rest)),
+        [b'i', b'n', b'i', b't', rest @ ..] => Some((Some(Source::Init), rest)),
         _ => store_source(bytes),
     }
-}
-
-/// An address, a value and a stamp, each with a space after it.
-#[inline(always)]
-#[tactic(auto, unfolding(crate::specs::inner::Reading::fields_at))]
-fn fields(bytes: &[u8]) -> Option<(RawFields, &[u8])>
-    ensures { front_now result ≡ front_map raw_fields_of (fields_at bytes.now) }
-{
-    let (addr, rest) = read_field(b' ', bytes)?;
-    let (value, rest) = read_field(b' ', rest)?;
-    let (ts, rest) = read_field(b' ', rest)?;
-    Some((RawFields { addr, value, ts }, rest))
 }
 
 /// The letter with which a record's line begins, and the bytes after its space.
 #[inline(always)]
 #[tactic(auto, unfolding(crate::specs::inner::Reading::letter_at, crate::specs::inner::Reading::reading_letter_at, decimal_text::specs::Reading::after))]
-fn letter(bytes: &[u8]) -> Option<(Letter, &[u8])>
+fn first_letter(bytes: &[u8]) -> Option<(Letter, &[u8])>
     ensures { front_now result ≡ letter_at bytes.now }
 {
     match bytes {
@@ -58,43 +75,87 @@ fn letter(bytes: &[u8]) -> Option<(Letter, &[u8])>
     }
 }
 
+/// A load with this source, if it is in range.
+#[inline(always)]
+fn load(source: Option<Source>) -> Option<FlatAct>
+    ensures { result ≡ option_map (λ s. Load s) source }
+{
+    Some(FlatAct::load(source?))
+}
+
+/// A swap with this source and the word that it read, if they are in range.
+#[inline(always)]
+fn swap(source: Option<Source>, read: Option<u64>) -> Option<FlatAct>
+    ensures { result ≡ option_and_then (λ s. option_map (λ word. Swap s word) read) source }
+{
+    Some(FlatAct::swap(source?, read?))
+}
+
 /// The act, from the bytes after the rank: of a load or a swap the source, and then the word that a
 /// swap read.
 #[inline(always)]
-#[tactic(auto, unfolding(crate::specs::inner::Reading::act_at))]
-fn act(letter: Letter, bytes: &[u8]) -> Option<(RawAct, &[u8])>
-    ensures { front_now result ≡ front_map raw_act_of (act_at letter bytes.now) }
+#[tactic(auto, unfolding(crate::specs::inner::Reading::act_at, crate::specs::inner::Kept::act_kept))]
+fn act(letter: Letter, bytes: &[u8]) -> Option<(Option<FlatAct>, &[u8])>
+    ensures { front_now result ≡ front_map act_kept (act_at letter bytes.now) }
 {
     if letter == Letter::Store {
-        return Some((RawAct::Store, bytes));
+        return Some((Some(FlatAct::store()), bytes));
     }
-    let (source, rest) = source(after_text(b" ", bytes)?)?;
+    let Some((source, rest)) = source(after_text(b" ", bytes)?) else {
+        return None;
+    };
     if letter == Letter::Load {
-        return Some((RawAct::Load(source), rest));
+        return Some((load(source), rest));
     }
     let (read, rest) = read_number(after_text(b" ", rest)?)?;
-    Some((RawAct::Swap(source, read), rest))
+    Some((swap(source, read), rest))
 }
 
-/// A record's letter and its fields.
+/// The record of these parts, if they are in range.
 #[inline(always)]
-#[tactic(auto, unfolding(crate::specs::inner::Reading::lettered_at))]
-fn lettered(bytes: &[u8]) -> Option<(RawRecord, &[u8])>
-    ensures { front_now result ≡ front_map raw_of (lettered_at bytes.now) }
+#[tactic(auto, unfolding(crate::specs::inner::Kept::record_kept))]
+fn in_range(
+    addr: Option<u64>,
+    value: Option<u64>,
+    ts: Option<u64>,
+    rank: Option<u64>,
+    act: Option<FlatAct>,
+) -> Option<Record>
+    ensures { (r : Record) → addr ≡ as_u64 r.addr → value ≡ as_u64 r.value → ts ≡ as_u64 r.ts
+        → rank ≡ as_u64 r.rank → act ≡ act_kept r.act → result ≡ record_kept r }
 {
-    let (letter, rest) = letter(bytes)?;
-    let (fields, rest) = fields(rest)?;
-    let (rank, rest) = read_number(rest)?;
-    let (act, rest) = act(letter, rest)?;
-    Some((RawRecord { act, fields, rank }, rest))
+    let value = value?;
+    let ts = Stamp::new(ts?).ok()?;
+    let rank = Rank::new(rank?).ok()?;
+    let addr = Addr::new(addr?).ok()?;
+    Some(Record::of_flat(value, ts, rank, addr, act?))
 }
 
-/// The record on this line, whatever the size of its numbers.
+/// A record from its letter on, and the bytes after it.
+#[inline(always)]
+#[tactic(auto, unfolding(crate::specs::inner::Reading::lettered_at, crate::specs::inner::Reading::fields_at))]
+fn lettered(bytes: &[u8]) -> Option<(Option<Record>, &[u8])>
+    ensures { front_now result ≡ front_map record_kept (lettered_at bytes.now) }
+{
+    let (letter, rest) = first_letter(bytes)?;
+    let (addr, rest) = read_field(b' ', rest)?;
+    let (value, rest) = read_field(b' ', rest)?;
+    let (ts, rest) = read_field(b' ', rest)?;
+    let (rank, rest) = read_number(rest)?;
+    let Some((act, rest)) = act(letter, rest) else {
+        return None;
+    };
+    Some((in_range(addr, value, ts, rank, act), rest))
+}
+
+/// The record on this line, if its numbers are in range.
 #[inline(always)]
 #[tactic(auto, unfolding(crate::specs::inner::Reading::record_of))]
-pub(crate) fn raw_record(line: &[u8]) -> Option<RawRecord>
-    ensures { result ≡ option_map raw_of (record_of line.now) }
+pub(crate) fn whole_record(line: &[u8]) -> Option<Option<Record>>
+    ensures { result ≡ option_map record_kept (record_of line.now) }
 {
-    let (raw, rest) = lettered(line)?;
-    if rest.is_empty() { Some(raw) } else { None }
+    let Some((read, rest)) = lettered(line) else {
+        return None;
+    };
+    if rest.is_empty() { Some(read) } else { None }
 }

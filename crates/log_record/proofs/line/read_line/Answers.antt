@@ -1,15 +1,11 @@
--- Nothing was read, or a record that a log of this format doesn't have: the line is no record's.
-use Rattle.std.proofs.Common.{sym, ◌∙◌}
-use Rattle.log_record.proofs.Raws.{none_is_bad, other_format, out_of_range}
+-- Nothing was read, or a record with a number out of range.
+use Rattle.std.proofs.Common.{sym, None}
+use Rattle.log_record.proofs.Kept.{none_is_bad, some_is_kept}
 use Rattle.log_record.proofs.line.read_line.Goals as goal
 
-pub returns-in_default-clause-bad : goal.returns-in_default-clause-bad
-returns-in_default-clause-bad c = λ e shape. none_is_bad c.args.line.now (sym c.in_default.is ∙ c.raw_record.ensures) c.args.format shape
+pub returns-in-None-clause-bad : goal.returns-in-None-clause-bad
+returns-in-None-clause-bad c = λ e shape. none_is_bad c.args.line.now c.in-None.ensures c.args.format shape
 
-pub returns-then-not-has_raw-clause-bad : goal.returns-then-not-has_raw-clause-bad
-returns-then-not-has_raw-clause-bad c =
-    λ e shape. other_format c.args.format c.args.line.now c.in-Some.raw (sym c.in-Some.is ∙ c.raw_record.ensures) (λ a same. sym (c.if-not-has_raw.ensures a same)) shape
-
-pub returns-in-None-clause-range : goal.returns-in-None-clause-range
-returns-in-None-clause-range c =
-    λ e. out_of_range c.args.format c.args.line.now c.in-Some.raw (sym c.in-Some.is ∙ c.raw_record.ensures) (λ a same. sym (c.if-not-has_raw.ensures a same)) c.in-None.ensures.none
+pub returns-in-Some-None-clause-range : goal.returns-in-Some-None-clause-range
+returns-in-Some-None-clause-range c =
+    λ e. let s = some_is_kept c.args.line.now None (cc c.in-Some-None.ensures) in (s.0, s.1, sym (c.if-not-may_begin.ensures s.0 s.1), s.2)
