@@ -1,26 +1,10 @@
--- One cell more, and one line more.
-use Rattle.std.proofs.Common.{◌≡◌, ◌<◌, ◌+◌, ℕ, true, false, List, [], ◌∷◌, ◌++◌, get_or, length, take, sym, ap, ◌∙◌, append_assoc, append-nil, arith}
+-- One line more.
+use Rattle.std.proofs.Common.{◌≡◌, ◌<◌, ◌+◌, ℕ, List, [], ◌∷◌, ◌++◌, get_or, length, take, sym, ap, ◌∙◌, append_assoc, append-nil, arith}
 use Rattle.std.proofs.lemmas.List.{length-take, take_more}
 use Rattle.csv_lines.specs.Lines.{cells_line}
-use Rattle.decimal_text.specs.Numbers.{numeral}
-use Rattle.statistics.specs.Columns.{column_at}
-use Rattle.statistics.specs.TableText.{cell_at, has_column, lines_from, part_cells}
-use Rattle.statistics.specs.Totals.{number_in}
-use Rattle.statistics.specs.declared.column.Column.{Column}
+use Rattle.statistics.specs.TableText.{lines_from, part_cells}
 use Rattle.statistics.specs.declared.numbers.Numbers.{Numbers}
-use Rattle.statistics.specs.declared.run_totals.RunTotals.{RunTotals}
 use Rattle.statistics.specs.declared.table_text.Part.{Part}
-use Rattle.statistics.specs.declared.table_text.Whose.{Whose}
-
--- the cell of a column that the line has, and of one that it hasn't
-pub filled_cell : (w : Whose) (t : RunTotals) (place : ℕ) (column : Column) (n : ℕ) → column ≡ column_at place → has_column w column ≡ true → n ≡ number_in column place t
-    → numeral n ≡ cell_at w t place
-unfolding cell_at
-filled_cell w t place column n is has number = rw (← is, has) (ap numeral number)
-
-pub blank_cell : (w : Whose) (t : RunTotals) (place : ℕ) (column : Column) → column ≡ column_at place → has_column w column ≡ false → [] ≡ cell_at w t place
-unfolding cell_at
-blank_cell w t place column is has = rw (← is, has)
 
 lines_push : (part : Part) (k : ℕ) (xs : List Numbers) (y : Numbers) → lines_from part k (xs ++ y ∷ []) ≡ lines_from part k xs ++ cells_line (part_cells part (k + length xs) y)
 lines_push part k [] y =

@@ -1,8 +1,7 @@
 -- The laws of the numbers.
-use Rattle.std.proofs.Common.{◌≡◌, ℕ, ◌+◌, cond, Bool, true, false, List, [], ◌∷◌, ◌++◌, length, count_by, reverse, refl, sym, ap, subst, ◌∙◌, append_assoc, append-nil, length-append, arith}
+use Rattle.std.proofs.Common.{◌≡◌, ℕ, ◌+◌, cond, Bool, true, false, List, [], ◌∷◌, ◌++◌, length, count_by, refl, sym, ap, ◌∙◌, length-append, arith}
 use Rattle.std.specs.Prelude.{◌&&◌, ◌==◌, Option, Some, None, if◌then◌else◌}
-use Rattle.std.proofs.lemmas.List.{reverse-append}
-use Rattle.std.proofs.lemmas.List.Sums.{sum_by-cons, sum_by_push}
+use Rattle.std.proofs.lemmas.List.Sums.{sum_by-cons}
 use Rattle.line_stamps.specs.Messages.{addr_of}
 use Rattle.line_stamps.specs.declared.message.Message.{Message}
 use Rattle.line_stamps.specs.declared.message.Reply.{Reply}
@@ -22,59 +21,47 @@ use Rattle.audit.specs.Lists.{history_of, picks, put, transcript_of}
 use Rattle.audit.specs.Pairs.{got_at, served_at, slice_of}
 use Rattle.statistics.specs.Columns.{counts}
 use Rattle.statistics.specs.Laws.{LogsAreCounted, SumsAgree, count_of, is_got_from, is_served_to}
-use Rattle.statistics.specs.Sights.{core_sights, is_operation, seen, seen_back}
+use Rattle.statistics.specs.Sights.{core_sights, no_past, past_after, sight_of, sights_after}
 use Rattle.statistics.specs.declared.column.Column.TheVariants.{Operations, Loads, Stores, Swaps}
+use Rattle.statistics.specs.declared.sight.Past.{Past}
 use Rattle.statistics.specs.declared.sight.Sight.{Sight}
 use Rattle.statistics.specs.declared.sight.Sight.TheVariants.{Operation, Core, Slice}
 
 -- ---- operations
 
--- the operations of these entries are the records of the log
-abbrev pub AreLogged : List CoreEntry → unit.Core → Type 0
-AreLogged ps u = count_by is_operation ps ≡ length u.log
+abbrev pub is_operation : CoreEntry → Bool
+is_operation Performed = true
+is_operation other = false
 
-more : (ps : List CoreEntry) (e : CoreEntry) → count_by is_operation (ps ++ e ∷ []) ≡ count_by is_operation ps + cond (is_operation e) 1 0
-more ps e = sum_by_push (λ x. cond (is_operation x) 1 0) ps e
+-- a core makes a record for each of its operations
+step_logged : (g : ConfigParts) (c : ℕ) (u : unit.Core) (e : CoreEntry) (v : unit.Core) → CoreStep g c u e v → length v.log ≡ length u.log + cond (is_operation e) 1 0
+step_logged g c u e v (performs x hit free next hits) = omega (arith, length-append u.log (record_of x hit ∷ []))
+step_logged g c u e v (drops a l free at) = omega arith
+step_logged g c u e v (gives kind a modified l asked free at) = omega arith
+step_logged g c u e v (gets x reply held free next misses place kind fills) = omega arith
+step_logged g c u e v (is_taken kind a l same) = omega arith
+step_logged g c u e v (bumps free) = omega arith
 
-step_logged : (g : ConfigParts) (c : ℕ) (ps : List CoreEntry) (u : unit.Core) (e : CoreEntry) (v : unit.Core) → CoreStep g c u e v → AreLogged ps u → AreLogged (ps ++ e ∷ []) v
-step_logged g c ps u e v (performs x hit free next hits) h = omega (arith, h, more ps e, length-append u.log (record_of x hit ∷ []))
-step_logged g c ps u e v (drops a l free at) h = omega (arith, h, more ps e)
-step_logged g c ps u e v (gives kind a modified l asked free at) h = omega (arith, h, more ps e)
-step_logged g c ps u e v (gets x reply held free next misses place kind fills) h = omega (arith, h, more ps e)
-step_logged g c ps u e v (is_taken kind a l same) h = omega (arith, h, more ps e)
-step_logged g c ps u e v (bumps free) h = omega (arith, h, more ps e)
-
-leads_logged : (g : ConfigParts) (c : ℕ) (ps : List CoreEntry) (u : unit.Core) (es : List CoreEntry) (v : unit.Core) → CoreLeads g c u es v → AreLogged ps u → AreLogged (ps ++ es) v
-leads_logged g c ps u [] v h is = subst (λ (x : unit.Core). AreLogged (ps ++ []) x) (sym h) (rw (append-nil ps) is)
-leads_logged g c ps u (e ∷ es) v h is =
-    subst (λ (qs : List CoreEntry). AreLogged qs v) (append_assoc ps (e ∷ []) es)
-    (leads_logged g c (ps ++ e ∷ []) h.0 es v h.2 (step_logged g c ps u e h.0 h.1 is))
+leads_logged : (g : ConfigParts) (c : ℕ) (u : unit.Core) (es : List CoreEntry) (v : unit.Core) → CoreLeads g c u es v → length v.log ≡ length u.log + count_by is_operation es
+leads_logged g c u [] v h = let same = ap (λ (x : unit.Core). length x.log) h in omega (arith, same)
+leads_logged g c u (e ∷ es) v h =
+    omega (arith, step_logged g c u e h.0 h.1, sum_by-cons (λ x. cond (is_operation x) 1 0) e es, leads_logged g c h.0 es v h.2)
 
 -- what is seen of them counts as many
-seen_operation : (period : ℕ) (log : List Record) (e : CoreEntry) (before : List CoreEntry) → counts Operations (seen period log e before) ≡ is_operation e
-seen_operation period log Performed before = refl
-seen_operation period log (Dropped a) before = refl
-seen_operation period log (Gave m) before = refl
-seen_operation period log (Got m r) before = refl
-seen_operation period log Bumped before = refl
+seen_operation : (period : ℕ) (log : List Record) (past : Past) (e : CoreEntry) → counts Operations (sight_of period log past e) ≡ is_operation e
+seen_operation period log past Performed = refl
+seen_operation period log past (Dropped a) = refl
+seen_operation period log past (Gave m) = refl
+seen_operation period log past (Got m r) = refl
+seen_operation period log past Bumped = refl
 
-one : Bool → ℕ
-one b = cond b 1 0
-
-seen_operations : (period : ℕ) (log : List Record) (es : List CoreEntry) → count_by (counts Operations) (seen_back period log es) ≡ count_by is_operation es
-unfolding one
-seen_operations period log [] = refl
-seen_operations period log (e ∷ es) =
-    let pushed = sum_by_push (λ x. cond (counts Operations x) 1 0) (seen_back period log es) (seen period log e es) in
-    let front = sum_by-cons (λ x. cond (is_operation x) 1 0) e es in
-    let same = ap one (seen_operation period log e es) in
-    omega (arith, pushed, front, same, seen_operations period log es)
-
-reversed : (es : List CoreEntry) → count_by is_operation (reverse es) ≡ count_by is_operation es
-reversed [] = refl
-reversed (e ∷ es) =
-    let front = sum_by-cons (λ x. cond (is_operation x) 1 0) e es in
-    ap (count_by is_operation) (reverse-append (e ∷ []) es) ∙ (sum_by_push (λ x. cond (is_operation x) 1 0) (reverse es) e ∙ omega (arith, front, reversed es))
+seen_operations : (period : ℕ) (log : List Record) (past : Past) (es : List CoreEntry) → count_by (counts Operations) (sights_after period log past es) ≡ count_by is_operation es
+seen_operations period log past [] = refl
+seen_operations period log past (e ∷ es) =
+    let next = past_after past e in
+    let seen = sum_by-cons (λ x. cond (counts Operations x) 1 0) (sight_of period log past e) (sights_after period log next es) in
+    let same = ap {B = ℕ} (λ b. cond b 1 0) (seen_operation period log past e) in
+    omega (arith, seen, same, sum_by-cons (λ x. cond (is_operation x) 1 0) e es, seen_operations period log next es)
 
 -- each has one act
 one_kind : (s : Sight) → cond (counts Loads s) 1 0 + cond (counts Stores s) 1 0 + cond (counts Swaps s) 1 0 ≡ cond (counts Operations s) 1 0
@@ -95,19 +82,19 @@ kinds (s ∷ ss) =
 
 operations : (p : UnitParts) → Replays p → count_of Operations p ≡ length p.log
 operations p replays =
-    seen_operations p.config.period p.log (reverse p.transcript) ∙ (reversed p.transcript ∙ leads_logged p.config p.core [] (new_core p.program) p.transcript _ replays.replay refl)
+    let all : length p.log ≡ 0 + count_by is_operation p.transcript = leads_logged p.config p.core (new_core p.program) p.transcript _ replays.replay in
+    omega (arith, all, seen_operations p.config.period p.log no_past p.transcript)
 
 pub logs_are_counted : LogsAreCounted
 logs_are_counted p replays = record { operations = operations p replays; acts = kinds (core_sights p) ∙ operations p replays }
 
 -- ---- replies and messages
 
-passes : {B : Type 0} → (B → Bool) → Option B → Bool
+abbrev pub passes : {B : Type 0} → (B → Bool) → Option B → Bool
 passes p None = false
 passes p (Some y) = p y
 
 pushed : {B : Type 0} (p : B → Bool) (o : Option B) (ys : List B) → cond (passes p o) 1 0 + count_by p ys ≡ count_by p (put o ys)
-unfolding passes
 pushed p None ys = omega arith
 pushed p (Some y) ys = sym (sum_by-cons (λ z. cond (p z) 1 0) y ys)
 
@@ -119,17 +106,15 @@ counted f p q same (x ∷ xs) =
     ∙ (ap (λ b. cond b 1 0 + count_by q xs) (same x) ∙ (ap (λ n. cond (passes p (f x)) 1 0 + n) (counted f p q same xs) ∙ pushed p (f x) (picks f xs)))
 
 -- of a message and its reply
-is_such : (Message → Bool) → (Reply → Bool) → Message × Reply → Bool
+abbrev pub is_such : (Message → Bool) → (Reply → Bool) → Message × Reply → Bool
 is_such asked answered pair = asked pair.0 && answered pair.1
 
 chosen : (b : Bool) (asked : Message → Bool) (answered : Reply → Bool) (m : Message) (r : Reply)
     → (b && (asked m && answered r)) ≡ passes (is_such asked answered) (if b then Some (m, r) else None)
-unfolding passes is_such
 chosen true asked answered m r = refl
 chosen false asked answered m r = refl
 
 same_got : (n s : ℕ) (asked : Message → Bool) (answered : Reply → Bool) (e : CoreEntry) → is_got_from n s asked answered e ≡ passes (is_such asked answered) (got_at n s e)
-unfolding passes
 same_got n s asked answered Performed = refl
 same_got n s asked answered (Dropped a) = refl
 same_got n s asked answered (Gave m) = refl
@@ -137,7 +122,6 @@ same_got n s asked answered (Got m r) = chosen (slice_of n (addr_of m) == s) ask
 same_got n s asked answered Bumped = refl
 
 same_served : (c : ℕ) (asked : Message → Bool) (answered : Reply → Bool) (e : HistoryEntry) → is_served_to c asked answered e ≡ passes (is_such asked answered) (served_at c e)
-unfolding passes
 same_served c asked answered (Evicted a) = refl
 same_served c asked answered (Served d m r) = chosen (d == c) asked answered m r
 

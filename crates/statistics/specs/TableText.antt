@@ -30,13 +30,13 @@ has_column whose.Cores column = not (is_of_slices column)
 has_column (whose.One part.Slice number) column = is_of_slices column
 has_column whose.Runs column = true
 
--- the cell of the column at a place
-unfoldable pub cell_at : Whose → RunTotals → ℕ → List ℕ
-cell_at whose totals place = if has_column whose (column_at place) then numeral (number_in (column_at place) place totals) else []
+-- the cell of a column, which stands at this place
+unfoldable pub cell : Whose → RunTotals → Column → ℕ → List ℕ
+cell whose totals column place = if has_column whose column then numeral (number_in column place totals) else []
 
 -- the cells of a line
 unfoldable pub row_cells : Whose → RunTotals → List (List ℕ)
-row_cells whose totals = whose_name whose ∷ map (cell_at whose totals) (range_with_len 0 column_count)
+row_cells whose totals = whose_name whose ∷ map (λ place. cell whose totals (column_at place) place) (range_with_len 0 column_count)
 
 -- the cells of core k, or of slice k
 abbrev pub part_cells : Part → ℕ → Numbers → List (List ℕ)

@@ -1,7 +1,7 @@
 -- Totals over cores and slices, and over runs.
-use Rattle.std.specs.Prelude.{ℕ, ◌+◌, ◌*◌, ◌^◌, ◌≤◌, max, List, get_or}
+use Rattle.std.specs.Prelude.{ℕ, ◌+◌, ◌*◌, ◌^◌, ◌≤◌, max, List, get_or, replicate}
 use Rattle.std.specs.List.{fold}
-use Rattle.statistics.specs.Columns.{by_place}
+use Rattle.statistics.specs.Columns.{by_place, column_count}
 use Rattle.statistics.specs.Runs.{RunNumbers}
 use Rattle.statistics.specs.declared.column.Column.{Column}
 use Rattle.statistics.specs.declared.column.Column.TheVariants.{Mts, Pts, Rank}
@@ -10,7 +10,7 @@ use Rattle.statistics.specs.declared.run_totals.RunTotals.{RunTotals}
 
 -- the totals over nothing
 abbrev pub none : RunTotals
-none = record { counts = by_place (λ place. 0); pts = 0; rank = 0; mts = 0 }
+none = record { counts = replicate column_count 0; pts = 0; rank = 0; mts = 0 }
 
 -- the sums of two lists of counts, place by place
 abbrev pub sums : List ℕ → List ℕ → List ℕ

@@ -1,11 +1,12 @@
 //! The columns of the table: the name of each, and what it counts.
 
 ghost use Rattle.std.specs.Prelude.{◌≡◌, ◌<◌};
-ghost use Rattle.statistics.specs.Columns.{column_at, column_name, counts, is_of_slices};
+ghost use Rattle.statistics.specs.Columns.{column_at, column_name, counts, is_load, is_of_slices};
 
-use super::sight::Sight;
+use super::sight::{Sight, is_request};
 use core_unit::CoreEntry;
 use line_stamps::{Message, Reply};
+use log_record::Act;
 use manager_slice::HistoryEntry;
 
 /// A column of the table.
@@ -112,37 +113,70 @@ impl Column {
     pub(crate) fn counts(self, sight: &Sight) -> bool
         ensures { result ≡ counts self sight.now }
     {
-        match self {
-            Column::Operations => matches!(sight, Sight::Operation { .. }),
-            Column::Loads => sight.is_load(),
-            Column::Stores => sight.is_store(),
-            Column::Swaps => sight.is_swap(),
-            Column::Hits => sight.is_hit(),
-            Column::ShReq => matches!(sight, Sight::Core(CoreEntry::Got(Message::ShReq { .. }, _))),
-            Column::ExReq => matches!(sight, Sight::Core(CoreEntry::Got(Message::ExReq { .. }, _))),
-            Column::Renewals => matches!(
-                sight,
-                Sight::Core(CoreEntry::Got(Message::ShReq { .. }, Reply::RenewRep(_)))
-            ),
-            Column::Upgrades => matches!(
-                sight,
-                Sight::Core(CoreEntry::Got(Message::ExReq { .. }, Reply::UpgradeRep(_)))
-            ),
-            Column::WbRep => matches!(sight, Sight::Core(CoreEntry::Got(Message::WbRep { .. }, _))),
-            Column::FlushRep => matches!(
-                sight,
-                Sight::Core(CoreEntry::Got(Message::FlushRep { .. }, _))
-            ),
-            Column::Dropped => matches!(sight, Sight::Core(CoreEntry::Dropped(_))),
-            Column::SelfIncrements => matches!(
-                sight,
-                Sight::Operation { due: true, .. } | Sight::Core(CoreEntry::Bumped)
-            ),
-            Column::Requests => sight.is_request(),
-            Column::GiveBacks => sight.is_give_back(),
-            Column::Evictions => matches!(sight, Sight::Slice(HistoryEntry::Evicted(_))),
-            Column::PrivateWrites => sight.is_hit() && !sight.is_load(),
-            Column::Pts | Column::Mts | Column::Rank => false,
+        match sight {
+            Sight::Operation { act, came, due } => self.counts_operation(*act, *came, *due),
+            Sight::Core(entry) => self.counts_entry(entry),
+            Sight::Slice(entry) => self.counts_service(entry),
         }
     }
+
+    // Whether it counts an operation.
+    fn counts_operation(self, act: Act, came: bool, due: bool) -> bool
+        ensures { result ≡ counts self (Sight.Operation act came due) }
+    {
+        match self {
+            Column::Operations => true,
+            Column::Loads => is_load(act),
+            Column::Stores => matches!(act, Act::Store),
+            Column::Swaps => matches!(act, Act::Swap(..)),
+            Column::Hits => !came,
+            Column::SelfIncrements => due,
+            Column::PrivateWrites => !came && !is_load(act),
+            _ => false,
+        }
+    }
+
+    // Whether it counts another entry of a core.
+    fn counts_entry(self, entry: &CoreEntry) -> bool
+        ensures { result ≡ counts self (Sight.Core entry.now) }
+    {
+        match self {
+            Column::ShReq => matches!(entry, CoreEntry::Got(Message::ShReq { .. }, _)),
+            Column::ExReq => matches!(entry, CoreEntry::Got(Message::ExReq { .. }, _)),
+            Column::Renewals => matches!(
+                entry,
+                CoreEntry::Got(Message::ShReq { .. }, Reply::RenewRep(_))
+            ),
+            Column::Upgrades => matches!(
+                entry,
+                CoreEntry::Got(Message::ExReq { .. }, Reply::UpgradeRep(_))
+            ),
+            Column::WbRep => matches!(entry, CoreEntry::Got(Message::WbRep { .. }, _)),
+            Column::FlushRep => matches!(entry, CoreEntry::Got(Message::FlushRep { .. }, _)),
+            Column::Dropped => matches!(entry, CoreEntry::Dropped(_)),
+            Column::SelfIncrements => matches!(entry, CoreEntry::Bumped),
+            _ => false,
+        }
+    }
+
+    // Whether it counts an entry of a slice.
+    fn counts_service(self, entry: &HistoryEntry) -> bool
+        ensures { result ≡ counts self (Sight.Slice entry.now) }
+    {
+        match entry {
+            HistoryEntry::Evicted(_) => matches!(self, Column::Evictions),
+            HistoryEntry::Served(_, message, _) => match self {
+                Column::Requests => is_request(message),
+                Column::GiveBacks => !is_request(message),
+                _ => false,
+            },
+        }
+    }
+}
+
+// Whether an act is a load.
+fn is_load(act: Act) -> bool
+    ensures { result ≡ is_load act }
+{
+    matches!(act, Act::Load(_))
 }

@@ -1,14 +1,14 @@
 //! The numbers of a core and of a slice.
 
-ghost use Rattle.std.specs.Prelude.{◌≡◌, ◌∷◌, ◌++◌, ◌<◌, ◌≤◌, [], List, length, map, reverse};
+ghost use Rattle.std.specs.Prelude.{◌≡◌, ◌∷◌, ◌<◌, ◌≤◌, ℕ, List, get_or, length, map};
 ghost use Rattle.manager_slice.specs.Limits.{entry_limit};
 ghost use Rattle.statistics.specs.Columns as columns;
-ghost use Rattle.statistics.specs.Sights.{seen_back};
+ghost use Rattle.statistics.specs.Sights.{no_past, sights_after};
 ghost use Rattle.statistics.specs.declared.sight.Sight.{Sight};
-ghost use Rattle.statistics.specs.inner.Counting.{IsCounted};
+ghost use Rattle.statistics.specs.inner.Counting.{AddsUp};
 
 use super::column::{COLUMN_COUNT, column_at};
-use super::sight::{Sight, entry_there, has_come, is_operation, sight_of};
+use super::sight::{Past, Sight, entry_there};
 use core_unit::{CoreUnit, Transcript};
 use log_record::Record;
 use manager_slice::{HistoryEntry, ManagerSlice};
@@ -57,16 +57,17 @@ impl Numbers {
 /// The count of each column over a transcript and its log.
 fn count_entries(transcript: &Transcript, log: &[Record], period: u64) -> [u32; COLUMN_COUNT]
     requires { 1 ≤ period }
-    ensures { result ≡ columns.counted (seen_back period log.now (reverse transcript.now.entries)) }
+    ensures { result ≡ columns.counted (sights_after period log.now no_past transcript.now.entries) }
 {
     let mut counts = [0; COLUMN_COUNT];
-    let mut done = 0;
-    let mut came = false;
+    let mut past = Past {
+        done: 0,
+        came: false,
+    };
     for place in 0..transcript.len() {
         let entry = entry_there(transcript, place);
-        count(&mut counts, &sight_of(&entry, log, period, done, came));
-        done += usize::from(is_operation(&entry));
-        came = has_come(&entry, came);
+        count(&mut counts, &past.sight_of(&entry, log, period));
+        past = past.after(&entry);
     }
     counts
 }
@@ -85,8 +86,8 @@ fn count_services(history: &[HistoryEntry]) -> [u32; COLUMN_COUNT]
 
 /// Counts a sight in each column that counts it.
 fn count(counts: &mut [u32; COLUMN_COUNT], sight: &Sight)
-    requires { (seen : List Sight) × IsCounted counts.old seen × (length seen < 4294967295) }
-    ensures { (seen : List Sight) → IsCounted counts.old seen → IsCounted counts.new (seen ++ sight.now ∷ []) }
+    requires { (place : ℕ) → place < columns.column_count → get_or counts.old place 0 < 4294967295 }
+    ensures { (rest all : List Sight) → AddsUp counts.old (sight.now ∷ rest) all → AddsUp counts.new rest all }
 {
     for place in 0..COLUMN_COUNT {
         counts[place] += u32::from(column_at(place).counts(sight));

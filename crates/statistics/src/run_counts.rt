@@ -1,6 +1,6 @@
 //! The numbers of a run.
 
-ghost use Rattle.std.specs.Prelude.{◌≡◌, ◌≤◌, IfOk, length};
+ghost use Rattle.std.specs.Prelude.{◌≡◌, ◌≤◌, IfOk};
 ghost use Rattle.statistics.specs.Runs.{run_numbers};
 
 use super::numbers::Numbers;
@@ -11,8 +11,10 @@ use std::marker::Model;
 /// The numbers of a run: those of its cores and those of its slices, at most 64 of each.
 #[derive(Drop)]
 pub struct RunCounts {
-    cores: Vec<Numbers>,
-    slices: Vec<Numbers>,
+    /// Those of its cores, core 0's first.
+    pub(crate) cores: Vec<Numbers>,
+    /// Those of its slices, slice 0's first.
+    pub(crate) slices: Vec<Numbers>,
 }
 
 impl Model for RunCounts {
@@ -45,21 +47,5 @@ impl RunCounts {
             cores: of_cores,
             slices: of_slices,
         })
-    }
-
-    /// The numbers of its cores, core 0's first.
-    pub fn cores(&self) -> &[Numbers]
-        ensures value { result.now ≡ self.now.cores }
-        ensures few { length self.now.cores ≤ 64 }
-    {
-        &self.cores
-    }
-
-    /// The numbers of its slices, slice 0's first.
-    pub fn slices(&self) -> &[Numbers]
-        ensures value { result.now ≡ self.now.slices }
-        ensures few { length self.now.slices ≤ 64 }
-    {
-        &self.slices
     }
 }

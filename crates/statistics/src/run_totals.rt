@@ -40,8 +40,8 @@ impl RunTotals {
         ensures totals { self.new ≡ totals.with_run self.old run.now }
         ensures bounded { (n : ℕ) → totals.IsBounded n self.old → totals.IsBounded (n + 1) self.new }
     {
-        self.add_parts(run.cores());
-        self.add_parts(run.slices());
+        self.add_parts(&run.cores);
+        self.add_parts(&run.slices);
     }
 
     /// The totals over these cores or slices.
@@ -51,15 +51,6 @@ impl RunTotals {
     {
         let mut totals = RunTotals::none();
         totals.add_parts(parts);
-        totals
-    }
-
-    /// The totals over one core or slice.
-    pub(crate) fn of_part(part: &Numbers) -> RunTotals
-        ensures { result ≡ totals.with_part totals.none part.now }
-    {
-        let mut totals = RunTotals::none();
-        totals.add_part(part);
         totals
     }
 
@@ -89,7 +80,7 @@ impl RunTotals {
     }
 
     /// Adds the numbers of one more core or slice.
-    fn add_part(&mut self, part: &Numbers)
+    pub(crate) fn add_part(&mut self, part: &Numbers)
         requires { totals.IsBoundedBy (2 ^ 29) self.old }
         ensures totals { self.new ≡ totals.with_part self.old part.now }
         ensures bounded { (n : ℕ) → totals.IsBoundedBy n self.old → totals.IsBoundedBy (n + 1) self.new }

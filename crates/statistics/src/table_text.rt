@@ -68,18 +68,19 @@ fn header_cells(alloc: Global) -> Result<StringRecord, AllocError>
     Ok(cells)
 }
 
-/// Adds the cell of the column at a place.
+/// Adds the cell of a column, which stands at this place.
+#[tactic(auto, unfolding(crate::specs::TableText::cell))]
 fn push_cell(
     alloc: Global,
     cells: &mut StringRecord,
     whose: Whose,
     totals: &RunTotals,
+    column: Column,
     place: usize,
 ) -> Result<(), AllocError>
     requires { place < COLUMN_COUNT }
-    ensures { OnOk result (fields_of cells.new ≡ fields_of cells.old ++ text.cell_at whose totals.now place ∷ []) }
+    ensures { OnOk result (fields_of cells.new ≡ fields_of cells.old ++ text.cell whose totals.now column place ∷ []) }
 {
-    let column = column_at(place);
     if whose.has(column) {
         push_number(alloc, cells, totals.number(place, column))
     } else {
@@ -95,7 +96,7 @@ fn row_cells(alloc: Global, whose: Whose, totals: &RunTotals) -> Result<StringRe
     let name = whose.name(alloc)?;
     cells.push_field(name.as_str())?;
     for place in 0..COLUMN_COUNT {
-        push_cell(alloc, &mut cells, whose, totals, place)?;
+        push_cell(alloc, &mut cells, whose, totals, column_at(place), place)?;
     }
     Ok(cells)
 }
@@ -136,12 +137,9 @@ fn write_parts(
     ensures fresh { OnOk result (IsFresh writer.old → IsFresh writer.new) }
 {
     for (number, counts) in numbers.iter().enumerate() {
-        write_row(
-            alloc,
-            writer,
-            Whose::One(part, number),
-            &RunTotals::of_part(counts),
-        )?;
+        let mut totals = RunTotals::none();
+        totals.add_part(counts);
+        write_row(alloc, writer, Whose::One(part, number), &totals)?;
     }
     Ok(())
 }
@@ -158,12 +156,8 @@ pub fn print_statistics(
 {
     let mut writer = begin_table(alloc)?;
     write_parts(alloc, &mut writer, Part::Core, cores)?;
-    write_row(
-        alloc,
-        &mut writer,
-        Whose::Cores,
-        &RunTotals::of_parts(cores),
-    )?;
+    let totals = RunTotals::of_parts(cores);
+    write_row(alloc, &mut writer, Whose::Cores, &totals)?;
     write_parts(alloc, &mut writer, Part::Slice, slices)?;
     text_of(writer)
 }

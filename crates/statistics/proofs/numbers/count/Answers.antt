@@ -5,8 +5,8 @@ use Rattle.statistics.proofs.Counting.{all_counted, one_more}
 use Rattle.statistics.proofs.numbers.count.Goals as goal
 
 pub returns : goal.returns
-returns c = λ seen is.
-    all_counted c.args.sight.now c.args.counts.now c.loop-place.counts seen c.loop-place.invariant.long
+returns c = λ rest all is.
+    all_counted c.args.sight.now c.args.counts.now c.loop-place.counts rest all c.loop-place.invariant.long
     (λ k lt. let below : k < c.loop-place.place = omega arith in c.loop-place.invariant.below k below) is
 
 pub loop-place-preserved : goal.loop-place-preserved

@@ -1,28 +1,25 @@
-use Rattle.std.proofs.Common.{◌≤◌, List, length, reverse, subst, sym, take, arith}
-use Rattle.std.proofs.lemmas.List.{take_all}
-use Rattle.core_unit.specs.declared.entry.CoreEntry.{CoreEntry}
-use Rattle.statistics.specs.Sights.{seen_back}
-use Rattle.statistics.specs.inner.Counting.{IsCounted}
-use Rattle.statistics.proofs.Counting.{all_told, few_seen, one_entry}
+use Rattle.std.proofs.Common.{◌≤◌, length, sym, arith}
+use Rattle.std.proofs.lemmas.List.{at_drop_all}
+use Rattle.statistics.specs.Sights.{no_past, sights_after}
+use Rattle.statistics.proofs.Counting.{all_told, few_counted, length_seen, none_counted, one_entry}
 use Rattle.statistics.proofs.numbers.count_entries.Goals as goal
 
+pub loop-place-init : goal.loop-place-init
+loop-place-init c = record { adds = none_counted _; few = omega arith }
+
 pub count-requires : goal.count-requires
-count-requires c = (
-  _,
-  c.loop-place.invariant.counted,
-  few_seen c.args.period c.args.log.now c.args.transcript.now.entries c.loop-place.place c.len-place-end.result c.loop-place-test.true
-      (omega (arith, c.len-place-end.ensures.len, c.len-place-end.ensures.limit)),
-)
+count-requires c =
+    few_counted _ _ _ c.loop-place.invariant.adds (omega (arith, length_seen c.args.period c.args.log.now no_past c.args.transcript.now.entries, c.len-place-end.ensures.limit))
 
 pub loop-place-preserved : goal.loop-place-preserved
-loop-place-preserved c =
-    let far = c.loop-place.invariant in
-    one_entry c.args.period c.args.log.now c.args.transcript.now.entries c.loop-place.place c.loop-place.counts c.count.new.counts c.loop-place.done _ c.loop-place.came _ c.entry_there-entry.result
-    c.sight_of.result (rw c.len-place-end.ensures.len at c.loop-place-test.true) (sym c.entry_there-entry.ensures) far (c.sight_of.ensures (reverse (take c.loop-place.place c.args.transcript.now.entries)) far.performed far.arrived)
-    (c.count.ensures _ far.counted) c.is_operation.result c.is_operation.ensures c.from-done.ensures (c.has_come-came.ensures (reverse (take c.loop-place.place c.args.transcript.now.entries)) far.arrived)
+loop-place-preserved c = record {
+  adds = one_entry c.args.period c.args.log.now c.loop-place.past _ c.args.transcript.now.entries c.loop-place.place c.entry_there-entry.result c.sight_of.result c.loop-place.counts c.count.new.counts _
+      (rw c.len-place-end.ensures.len at c.loop-place-test.true) (sym c.entry_there-entry.ensures) c.sight_of.ensures c.after-past.ensures.value c.count.ensures c.loop-place.invariant.adds;
+  few = omega (arith, c.after-past.ensures.steps, c.loop-place.invariant.few);
+}
 
 pub returns : goal.returns
 returns c =
     let es = c.args.transcript.now.entries in
     let end : length es ≤ c.loop-place.place = omega (arith, c.len-place-end.ensures.len, c.loop-place-test.false) in
-    all_told _ _ (subst (λ (xs : List CoreEntry). IsCounted c.loop-place.counts (seen_back c.args.period c.args.log.now (reverse xs))) (take_all c.loop-place.place es end) c.loop-place.invariant.counted)
+    all_told _ _ _ (at_drop_all (sights_after c.args.period c.args.log.now c.loop-place.past) es c.loop-place.place end) c.loop-place.invariant.adds

@@ -2,19 +2,19 @@ use Rattle.std.proofs.Common.{◌≡◌, ℕ, ◌∷◌, ◌++◌, ◌∙◌, []
 use Rattle.std.specs.List.{range_with_len}
 use Rattle.std.proofs.lemmas.List.FromFn.{map-range_with_len_more}
 use Rattle.csv.specs.Records.{fields_of}
-use Rattle.statistics.specs.Columns.{column_count}
-use Rattle.statistics.specs.TableText.{cell_at, row_cells, whose_name}
+use Rattle.statistics.specs.Columns.{column_at, column_count}
+use Rattle.statistics.specs.TableText.{cell, row_cells, whose_name}
 use Rattle.statistics.proofs.table_text.row_cells.Goals as goal
 
 pub loop-place-preserved : goal.loop-place-preserved
 loop-place-preserved c =
     let w = c.args.whose in
-    let cell = cell_at w c.args.totals.now in
-    c.in_ok-push_cell.ensures ∙ ap (λ t. t ++ cell c.loop-place.place ∷ []) c.loop-place.invariant
-    ∙ ap (λ t. whose_name w ∷ t) (sym (map-range_with_len_more cell 0 c.loop-place.place c.loop-place.place (omega arith)))
+    let cell_at = λ (place : ℕ). cell w c.args.totals.now (column_at place) place in
+    (rw c.column_at.ensures at c.in_ok-push_cell.ensures) ∙ ap (λ t. t ++ cell_at c.loop-place.place ∷ []) c.loop-place.invariant
+    ∙ ap (λ t. whose_name w ∷ t) (sym (map-range_with_len_more cell_at 0 c.loop-place.place c.loop-place.place (omega arith)))
 
 pub returns : goal.returns
 unfolding row_cells
 returns c =
     let all : c.loop-place.place ≡ column_count = omega arith in
-    subst (λ (n : ℕ). fields_of c.loop-place.cells ≡ whose_name c.args.whose ∷ map (cell_at c.args.whose c.args.totals.now) (range_with_len 0 n)) all c.loop-place.invariant
+    rw all at c.loop-place.invariant

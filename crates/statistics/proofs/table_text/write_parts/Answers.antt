@@ -8,5 +8,5 @@ pub loop-number-preserved : goal.loop-number-preserved
 loop-number-preserved c = record {
   fresh = λ f. c.in_ok-write_row.ensures.fresh (c.loop-number.invariant.fresh f);
   text = λ f. line_more c.args.part _ _ _ _ _ _ _ c.loop-number-test.true (c.loop-number.invariant.text f) (c.in_ok-write_row.ensures.text (c.loop-number.invariant.fresh f))
-      (ap (row_cells (whose.One c.args.part c.loop-number.number)) c.of_part.ensures);
+      (ap (row_cells (whose.One c.args.part c.loop-number.number)) (rw c.none-totals.ensures.totals at c.add_part.ensures.totals));
 }
