@@ -1,7 +1,5 @@
 -- One sight more: what it adds to the counts.
-use Rattle.std.proofs.Common.{◌≡◌, ◌≢◌, ℕ, ◌+◌, ◌<◌, ◌≤◌, cond, Bool, true, false, List, [], ◌∷◌, count_by, drop, get_or, length, map, replicate, refl, sym, ap, subst, ◌∙◌, arith, below_more, get_or-set_other, get_or-set_same, zero-add}
-use Rattle.std.specs.Prelude.{slice_set}
-use mir.Val.{bool_byte}
+use Rattle.std.proofs.Common.{◌≡◌, ℕ, ◌+◌, ◌<◌, ◌≤◌, cond, Bool, List, [], ◌∷◌, count_by, drop, get_or, length, map, replicate, refl, sym, ap, subst, ◌∙◌, arith, zero-add}
 use Rattle.std.proofs.lemmas.List.{at_drop_more, get_or-replicate, length-replicate}
 use Rattle.std.proofs.lemmas.List.FromFn.{fill_by_all}
 use Rattle.std.proofs.lemmas.List.Sums.{count_by-le-length, sum_by-cons}
@@ -13,29 +11,17 @@ use Rattle.statistics.specs.Sights.{past_after, sight_of, sights_after}
 use Rattle.statistics.specs.declared.sight.Past.{Past}
 use Rattle.statistics.specs.declared.sight.Sight.{Sight}
 use Rattle.statistics.specs.declared.sight.Sight.TheVariants.{Slice}
-use Rattle.statistics.specs.inner.Counting.{AddsUp}
+use Rattle.statistics.specs.inner.Counting.{AddsUp, told}
 
 -- ---- one sight
-
-byte : (b : Bool) → bool_byte b ≡ cond b 1 0
-byte true = refl
-byte false = refl
-
--- a column that counts adds 1, and no other column changes
-pub one_more : (counts : ℕ → Bool) (old new : List ℕ) (i n : ℕ) (told : Bool) → i < length new → counts i ≡ told → n ≡ bool_byte told
-    → ((k : ℕ) → k < i → get_or new k 0 ≡ get_or old k 0 + cond (counts k) 1 0) → get_or new i 0 ≡ get_or old i 0
-    → (k : ℕ) → k < i + 1 → get_or (slice_set new i (get_or new i 0 + n)) k 0 ≡ get_or old k 0 + cond (counts k) 1 0
-one_more counts old new i n told within is adds below here =
-    below_more _ _
-    (λ k h. let ne : k ≢ i = omega arith in rw get_or-set_other (below k h))
-    (rw (get_or-set_same, here, is) (ap (λ m. get_or old i 0 + m) (adds ∙ byte told)))
 
 one_less : (p : Sight → Bool) (s : Sight) (rest all : List Sight) (old new : ℕ) → new ≡ old + cond (p s) 1 0
     → old + count_by p (s ∷ rest) ≡ count_by p all → new + count_by p rest ≡ count_by p all
 one_less p s rest all old new one is = omega (arith, sum_by-cons (λ x. cond (p x) 1 0) s rest)
 
 pub all_counted : (s : Sight) (old new : List ℕ) (rest all : List Sight) → length new ≡ column_count
-    → ((k : ℕ) → k < column_count → get_or new k 0 ≡ get_or old k 0 + cond (counts (column_at k) s) 1 0) → AddsUp old (s ∷ rest) all → AddsUp new rest all
+    → ((k : ℕ) → k < column_count → get_or new k 0 ≡ get_or old k 0 + told k s) → AddsUp old (s ∷ rest) all → AddsUp new rest all
+unfolding told
 all_counted s old new rest all long one is = record {
   length = long;
   each = λ k lt. one_less (counts (column_at k)) s rest all (get_or old k 0) (get_or new k 0) (one k lt) (is.each k lt);

@@ -5,7 +5,7 @@ ghost use Rattle.manager_slice.specs.Limits.{entry_limit};
 ghost use Rattle.statistics.specs.Columns as columns;
 ghost use Rattle.statistics.specs.Sights.{no_past, sights_after};
 ghost use Rattle.statistics.specs.declared.sight.Sight.{Sight};
-ghost use Rattle.statistics.specs.inner.Counting.{AddsUp};
+ghost use Rattle.statistics.specs.inner.Counting.{AddsUp, told};
 
 use super::column::{COLUMN_COUNT, column_at};
 use super::sight::{Past, Sight, entry_there};
@@ -90,8 +90,18 @@ fn count(counts: &mut [u32; COLUMN_COUNT], sight: &Sight)
     ensures { (rest all : List Sight) → AddsUp counts.old (sight.now ∷ rest) all → AddsUp counts.new rest all }
 {
     for place in 0..COLUMN_COUNT {
-        counts[place] += u32::from(column_at(place).counts(sight));
+        counts[place] += told(place, sight);
     }
+}
+
+/// How much the column at a place counts for a sight.
+#[tactic(auto, unfolding(crate::specs::inner::Counting::told))]
+fn told(place: usize, sight: &Sight) -> u32
+    requires { place < COLUMN_COUNT }
+    ensures value { result ≡ told place sight.now }
+    ensures small { result ≤ 1 }
+{
+    if column_at(place).counts(sight) { 1 } else { 0 }
 }
 
 /// The greatest rank of a log.

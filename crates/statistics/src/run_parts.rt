@@ -62,6 +62,7 @@ impl RunParts for RunEnd {
 }
 
 /// The numbers of so many cores, or of all if there are fewer. Err if memory was refused.
+#[tactic(auto, using(crate::proofs::RunLists::no_more))]
 pub fn counts_of_cores<R: RunParts>(
     alloc: Global,
     of: &R,
@@ -81,6 +82,7 @@ pub fn counts_of_cores<R: RunParts>(
 }
 
 /// The numbers of so many slices, or of all if there are fewer. Err if memory was refused.
+#[tactic(auto, using(crate::proofs::RunLists::no_more))]
 pub fn counts_of_slices<R: RunParts>(
     alloc: Global,
     of: &R,

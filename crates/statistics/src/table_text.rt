@@ -89,6 +89,7 @@ fn push_cell(
 }
 
 /// The cells of a line.
+#[tactic(auto, unfolding(crate::specs::TableText::row_cells))]
 fn row_cells(alloc: Global, whose: Whose, totals: &RunTotals) -> Result<StringRecord, AllocError>
     ensures { IfOk result (λ cells. fields_of cells ≡ text.row_cells whose totals.now) }
 {
@@ -116,6 +117,7 @@ fn write_row(
 }
 
 /// A table that has only its first line.
+#[tactic(auto, using(crate::proofs::Plain::header_plain))]
 fn begin_table(alloc: Global) -> Result<Writer<Vec<u8>>, AllocError>
     ensures fresh { IfOk result (λ writer. IsFresh writer) }
     ensures text { IfOk result (λ writer. written writer ≡ Some (cells_line text.header_cells)) }

@@ -1,11 +1,12 @@
 -- The columns below the place have counted, and the others are as they were.
-use Rattle.std.proofs.Common.{◌≡◌, ◌+◌, ◌<◌, ◌≤◌, ℕ, cond, get_or, length}
-use Rattle.statistics.specs.Columns.{column_at, column_count, counts}
+use Rattle.std.proofs.Common.{◌≡◌, ◌+◌, ◌<◌, ◌≤◌, ℕ, get_or, length}
+use Rattle.statistics.specs.Columns.{column_count}
+use Rattle.statistics.specs.inner.Counting.{told}
 use Rattle.statistics.proofs.numbers.count.Given as goal
 
 abbrev pub invariant-loop-place : goal.invariant-loop-place
 invariant-loop-place l = record {
   long : length l.counts ≡ column_count;
-  below : (k : ℕ) → k < l.place → get_or l.counts k 0 ≡ get_or l.initial.counts k 0 + cond (counts (column_at k) l.sight) 1 0;
+  below : (k : ℕ) → k < l.place → get_or l.counts k 0 ≡ get_or l.initial.counts k 0 + told k l.sight;
   above : (k : ℕ) → l.place ≤ k → get_or l.counts k 0 ≡ get_or l.initial.counts k 0;
 }

@@ -4,9 +4,6 @@ use Rattle.statistics.specs.Sights.{no_past, sights_after}
 use Rattle.statistics.proofs.Counting.{all_told, few_counted, length_seen, none_counted, one_entry}
 use Rattle.statistics.proofs.numbers.count_entries.Goals as goal
 
-pub loop-place-init : goal.loop-place-init
-loop-place-init c = record { adds = none_counted _; few = omega arith }
-
 pub count-requires : goal.count-requires
 count-requires c =
     few_counted _ _ _ c.loop-place.invariant.adds (omega (arith, length_seen c.args.period c.args.log.now no_past c.args.transcript.now.entries, c.len-place-end.ensures.limit))

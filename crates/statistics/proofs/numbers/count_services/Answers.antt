@@ -5,9 +5,6 @@ use Rattle.statistics.specs.declared.sight.Sight.TheVariants.{Slice}
 use Rattle.statistics.proofs.Counting.{all_told, few_counted, none_counted, one_service}
 use Rattle.statistics.proofs.numbers.count_services.Goals as goal
 
-pub loop-entry-init : goal.loop-entry-init
-loop-entry-init c = none_counted _
-
 pub count-requires : goal.count-requires
 count-requires c = few_counted _ _ _ c.loop-entry.invariant (omega (arith, length-map c.args.history.now (λ (e : HistoryEntry). Slice e), c.requires))
 

@@ -12,9 +12,3 @@ loop-place-preserved c =
     let cell_at = λ (place : ℕ). cell w c.args.totals.now (column_at place) place in
     (rw c.column_at.ensures at c.in_ok-push_cell.ensures) ∙ ap (λ t. t ++ cell_at c.loop-place.place ∷ []) c.loop-place.invariant
     ∙ ap (λ t. whose_name w ∷ t) (sym (map-range_with_len_more cell_at 0 c.loop-place.place c.loop-place.place (omega arith)))
-
-pub returns : goal.returns
-unfolding row_cells
-returns c =
-    let all : c.loop-place.place ≡ column_count = omega arith in
-    rw all at c.loop-place.invariant
