@@ -73,6 +73,7 @@ fn count_entries(transcript: &Transcript, log: &[Record], period: u64) -> [u32; 
 }
 
 /// The count of each column over a history.
+#[tactic(auto, using(crate::proofs::Counting::few_counted))]
 fn count_services(history: &[HistoryEntry]) -> [u32; COLUMN_COUNT]
     requires { length history.now ≤ entry_limit }
     ensures { result ≡ columns.counted (map (λ e. Sight.Slice e) history.now) }

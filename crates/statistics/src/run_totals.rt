@@ -44,16 +44,6 @@ impl RunTotals {
         self.add_parts(&run.slices);
     }
 
-    /// The totals over these cores or slices.
-    pub(crate) fn of_parts(parts: &[Numbers]) -> RunTotals
-        requires { length parts.now ≤ 64 }
-        ensures { result ≡ totals.with_parts totals.none parts.now }
-    {
-        let mut totals = RunTotals::none();
-        totals.add_parts(parts);
-        totals
-    }
-
     /// The number in a column, whose place is `place`.
     pub(crate) fn number(&self, place: usize, column: Column) -> u64
         requires { place < COLUMN_COUNT }
@@ -68,7 +58,7 @@ impl RunTotals {
     }
 
     /// Adds the numbers of more cores or slices.
-    fn add_parts(&mut self, parts: &[Numbers])
+    pub(crate) fn add_parts(&mut self, parts: &[Numbers])
         requires few { length parts.now ≤ 64 }
         requires room { totals.IsBoundedBy (2 ^ 28) self.old }
         ensures totals { self.new ≡ totals.with_parts self.old parts.now }

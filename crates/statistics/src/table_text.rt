@@ -158,7 +158,8 @@ pub fn print_statistics(
 {
     let mut writer = begin_table(alloc)?;
     write_parts(alloc, &mut writer, Part::Core, cores)?;
-    let totals = RunTotals::of_parts(cores);
+    let mut totals = RunTotals::none();
+    totals.add_parts(cores);
     write_row(alloc, &mut writer, Whose::Cores, &totals)?;
     write_parts(alloc, &mut writer, Part::Slice, slices)?;
     text_of(writer)

@@ -5,9 +5,6 @@ use Rattle.statistics.specs.declared.sight.Sight.TheVariants.{Slice}
 use Rattle.statistics.proofs.Counting.{all_told, few_counted, none_counted, one_service}
 use Rattle.statistics.proofs.numbers.count_services.Goals as goal
 
-pub count-requires : goal.count-requires
-count-requires c = few_counted _ _ _ c.loop-entry.invariant (omega (arith, length-map c.args.history.now (λ (e : HistoryEntry). Slice e), c.requires))
-
 pub loop-entry-preserved : goal.loop-entry-preserved
 loop-entry-preserved c =
     one_service c.args.history.now c.loop-entry.entry-index c.entry-item.result c.loop-entry.counts c.count.new.counts _ c.loop-entry-test.true c.entry-item.is c.count.ensures c.loop-entry.invariant
