@@ -8,7 +8,7 @@ ghost use Rattle.statistics.specs.declared.sight.Sight.{Sight};
 ghost use Rattle.statistics.specs.inner.Counting.{AddsUp, told};
 
 use super::column::{COLUMN_COUNT, column_at};
-use super::sight::{Past, Sight, entry_there};
+use super::sight::{Past, Sight};
 use core_unit::{CoreUnit, Transcript};
 use log_record::Record;
 use manager_slice::{HistoryEntry, ManagerSlice};
@@ -65,7 +65,9 @@ fn count_entries(transcript: &Transcript, log: &[Record], period: u64) -> [u32; 
         came: false,
     };
     for place in 0..transcript.len() {
-        let entry = entry_there(transcript, place);
+        let Some(entry) = transcript.get(place) else {
+            unreachable!();
+        };
         count(&mut counts, &past.sight_of(&entry, log, period));
         past = past.after(&entry);
     }

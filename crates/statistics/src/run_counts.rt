@@ -41,11 +41,9 @@ impl RunCounts {
         ensures { IfOk result (λ counts.
             counts ≡ run_numbers cores slices (R.units run.now) (R.slices run.now)) }
     {
-        let of_cores = counts_of_cores(alloc, run, cores)?;
-        let of_slices = counts_of_slices(alloc, run, slices)?;
         Ok(RunCounts {
-            cores: of_cores,
-            slices: of_slices,
+            cores: counts_of_cores(alloc, run, cores)?,
+            slices: counts_of_slices(alloc, run, slices)?,
         })
     }
 }

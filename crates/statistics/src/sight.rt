@@ -1,12 +1,12 @@
 //! The sights that the columns count: the entries of a core's transcript, with what the columns need of its past, and those of a
 //! slice's history.
 
-ghost use Rattle.std.specs.Prelude.{◌≡◌, ◌+◌, ◌<◌, ◌≤◌, get_or, length};
+ghost use Rattle.std.specs.Prelude.{◌≡◌, ◌+◌, ◌≤◌};
 ghost use Rattle.manager_slice.specs.Limits.{entry_limit};
 ghost use Rattle.manager_slice.specs.Messages.{is_request};
 ghost use Rattle.statistics.specs.Sights.{act_at, past_after, sight_of};
 
-use core_unit::{CoreEntry, Transcript};
+use core_unit::CoreEntry;
 use line_stamps::Message;
 use log_record::{Act, Record};
 use manager_slice::HistoryEntry;
@@ -83,16 +83,5 @@ fn act_at(log: &[Record], place: usize) -> Act
     match log.get(place) {
         Some(record) => record.act(),
         None => Act::Store,
-    }
-}
-
-/// The entry at a place within the transcript.
-pub(crate) fn entry_there(transcript: &Transcript, place: usize) -> CoreEntry
-    requires { place < length transcript.now.entries }
-    ensures { result ≡ get_or transcript.now.entries place result }
-{
-    match transcript.get(place) {
-        Some(entry) => entry,
-        None => unreachable!(),
     }
 }

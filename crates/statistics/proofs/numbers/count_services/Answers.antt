@@ -1,8 +1,7 @@
-use Rattle.std.proofs.Common.{map, arith}
-use Rattle.std.proofs.lemmas.List.{at_drop_all, length-map}
-use Rattle.manager_slice.specs.declared.managed.HistoryEntry.{HistoryEntry}
+use Rattle.std.proofs.Common.{map}
+use Rattle.std.proofs.lemmas.List.{at_drop_all}
 use Rattle.statistics.specs.declared.sight.Sight.TheVariants.{Slice}
-use Rattle.statistics.proofs.Counting.{all_told, few_counted, none_counted, one_service}
+use Rattle.statistics.proofs.Counting.{all_told, one_service}
 use Rattle.statistics.proofs.numbers.count_services.Goals as goal
 
 pub loop-entry-preserved : goal.loop-entry-preserved

@@ -1,9 +1,7 @@
-use Rattle.std.proofs.Common.{◌≡◌, ℕ, ◌∷◌, ◌++◌, ◌∙◌, [], ap, map, subst, sym, arith}
-use Rattle.std.specs.List.{range_with_len}
+use Rattle.std.proofs.Common.{ℕ, ◌∷◌, ◌++◌, ◌∙◌, [], ap, sym, arith}
 use Rattle.std.proofs.lemmas.List.FromFn.{map-range_with_len_more}
-use Rattle.csv.specs.Records.{fields_of}
-use Rattle.statistics.specs.Columns.{column_at, column_count}
-use Rattle.statistics.specs.TableText.{cell, row_cells, whose_name}
+use Rattle.statistics.specs.Columns.{column_at}
+use Rattle.statistics.specs.TableText.{cell, whose_name}
 use Rattle.statistics.proofs.table_text.row_cells.Goals as goal
 
 pub loop-place-preserved : goal.loop-place-preserved
