@@ -1,6 +1,6 @@
 -- One sight more: what it adds to the counts.
-use Rattle.std.proofs.Common.{◌≡◌, ℕ, ◌+◌, ◌<◌, ◌≤◌, cond, Bool, List, [], ◌∷◌, count_by, drop, get_or, length, map, replicate, refl, sym, ap, subst, ◌∙◌, arith, zero-add}
-use Rattle.std.proofs.lemmas.List.{at_drop_more, get_or-replicate, length-replicate}
+use Rattle.std.proofs.Common.{◌≡◌, ℕ, ◌+◌, ◌<◌, ◌≤◌, cond, Bool, List, [], ◌∷◌, count_by, drop, get_or, length, map, refl, sym, ap, subst, ◌∙◌, arith}
+use Rattle.std.proofs.lemmas.List.{at_drop_more}
 use Rattle.std.proofs.lemmas.List.FromFn.{fill_by_all}
 use Rattle.std.proofs.lemmas.List.Sums.{count_by-le-length, sum_by-cons}
 use Rattle.log_record.specs.declared.record.Record.{Record}
@@ -33,13 +33,7 @@ small p n rest all few is = omega (arith, count_by-le-length p all)
 pub few_counted : (numbers : List ℕ) (rest all : List Sight) → AddsUp numbers rest all → length all ≤ 1048576 → (place : ℕ) → place < column_count → get_or numbers place 0 < 4294967295
 few_counted numbers rest all is few place lt = small (counts (column_at place)) (get_or numbers place 0) rest all few (is.each place lt)
 
--- ---- none, one more, and all
-
-pub none_counted : (all : List Sight) → AddsUp (replicate column_count 0) all all
-none_counted all = record {
-  length = length-replicate {A = ℕ} column_count 0;
-  each = λ place lt. ap (λ n. n + count_by (counts (column_at place)) all) (get_or-replicate column_count place 0 0 lt) ∙ zero-add _;
-}
+-- ---- one more, and all
 
 pub one_entry : (period : ℕ) (log : List Record) (past next : Past) (es : List CoreEntry) (i : ℕ) (e : CoreEntry) (s : Sight) (old new : List ℕ) (all : List Sight)
     → i < length es → get_or es i e ≡ e → s ≡ sight_of period log past e → next ≡ past_after past e → ((rest all : List Sight) → AddsUp old (s ∷ rest) all → AddsUp new rest all)

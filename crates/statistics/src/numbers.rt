@@ -60,10 +60,7 @@ fn count_entries(transcript: &Transcript, log: &[Record], period: u64) -> [u32; 
     ensures { result ≡ columns.counted (sights_after period log.now no_past transcript.now.entries) }
 {
     let mut counts = [0; COLUMN_COUNT];
-    let mut past = Past {
-        done: 0,
-        came: false,
-    };
+    let mut past = Past::default();
     for place in 0..transcript.len() {
         let Some(entry) = transcript.get(place) else {
             unreachable!();

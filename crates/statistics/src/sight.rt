@@ -24,7 +24,7 @@ pub(crate) enum Sight {
 }
 
 /// What the columns need of a core's past.
-#[derive(Clone, Copy, Debug, PartialEq, Eq)]
+#[derive(Clone, Copy, Debug, Default, PartialEq, Eq)]
 pub(crate) struct Past {
     /// How many operations it has performed.
     pub(crate) done: usize,
