@@ -9,6 +9,7 @@ use Rattle.log_record.specs.declared.record.Record.{Record}
 use Rattle.log_record.specs.declared.record.Entry.{Entry}
 use Rattle.log_record.specs.Entries.{core_entries, entries_from, entries, entry_cmp}
 use Rattle.address_check.proofs.Totals.{entry_total}
+use Rattle.log_file.proofs.Joined.{core_entries-append, length-core_entries}
 use Rattle.verdict.specs.ByKey.{by_key}
 use Rattle.merge_judge.specs.inner.Lanes.{add, entry_at, log_at}
 
@@ -37,10 +38,6 @@ sorted_last (x ∷ xs) ys e h =
 
 -- ---- one more record of a core
 
-core_push : (core i j : ℕ) (log : List Record) (r : Record) → j ≡ i + length log → core_entries core i (log ++ r ∷ []) ≡ core_entries core i log ++ entry_at core j r ∷ []
-core_push core i j [] r q = ap (λ k. entry_at core k r ∷ []) (let e : i ≡ j = omega arith in e)
-core_push core i j (s ∷ log) r q = ap (λ es. entry_at core i s ∷ es) (core_push core (suc i) j log r (omega arith))
-
 -- the entries before and after that of the record
 pub record Split (base core : ℕ) (logs : List (List Record)) (r : Record) : Type 0 where
   pub front : List Entry
@@ -54,7 +51,7 @@ split base zero (log ∷ logs) r l = record {
   front = core_entries base 0 log;
   back = entries_from (suc base) logs;
   old = refl;
-  new = ap (λ es. es ++ entries_from (suc base) logs) (core_push base 0 (length log) log r (omega arith))
+  new = ap (λ es. es ++ entries_from (suc base) logs) (core_entries-append base 0 log (r ∷ []) ∙ ap (λ i. core_entries base 0 log ++ entry_at base i r ∷ []) (let e : 0 + length log ≡ length log = omega arith in e))
       ∙ append_assoc (core_entries base 0 log) (entry_at base (length log) r ∷ []) (entries_from (suc base) logs)
       ∙ ap (λ b. core_entries base 0 log ++ entry_at b (length log) r ∷ entries_from (suc base) logs) (let e : base ≡ base + 0 = omega arith in e);
 }
@@ -106,16 +103,12 @@ entries_more logs core r l =
 
 -- ---- how many entries there are
 
-core_long : (core i : ℕ) (log : List Record) → length (core_entries core i log) ≡ length log
-core_long core i [] = refl
-core_long core i (r ∷ log) = ap suc (core_long core (suc i) log)
-
 pub entries_few : (base most : ℕ) (logs : List (List Record)) → ((k : ℕ) → k < length logs → length (log_at logs k) ≤ most) → length (entries_from base logs) ≤ length logs * most
 entries_few base most [] h = omega arith
 entries_few base most (log ∷ logs) h =
     let rest = entries_few (suc base) most logs (λ k l. h (suc k) (omega arith)) in
     let first = h 0 (omega arith) in
     let long = length-append (core_entries base 0 log) (entries_from (suc base) logs) in
-    let here = core_long base 0 log in
+    let here = length-core_entries base 0 log in
     let times : suc (length logs) * most ≡ most + length logs * most = omega arith in
     omega (arith, rest, first, long, here, times)

@@ -1,13 +1,15 @@
 -- The first fault along the order of keys is the least.
-use Rattle.std.specs.Prelude.{◌≡◌, Bool, true, false, List, [], ◌∷◌, ◌++◌, refl, Option, Some, None}
+use Rattle.std.specs.Prelude.{◌≡◌, Bool, true, false, List, [], ◌∷◌, ◌++◌, refl, Option, Some, None, length, slice_get, take}
 use Rattle.std.specs.Option.{option_or}
-use Rattle.std.proofs.Common.{sym, ◌∙◌, ap, subst, inl, inr, append_assoc, append-nil}
+use Rattle.std.proofs.Common.{sym, ◌∙◌, ap, subst, inl, inr, arith, append_assoc, append-nil, length-append}
 use Rattle.std.specs.Ordering.{is_lt}
 use Rattle.std.proofs.lemmas.Bool.{and_parts, and_from, false_from_ne_true}
+use Rattle.std.proofs.lemmas.List.{get_or_at, take_at}
+use Rattle.std.proofs.lemmas.Option.{slice_get-get_or}
 use Rattle.line_stamps.specs.KeyOrder.{key_cmp}
 use Rattle.line_stamps.specs.Ordered.{In, Ascends, IsGreatest, IsLeastIn}
 use Rattle.line_stamps.proofs.Order.{lt_irrefl, lt_asym, lt_cases}
-use Rattle.line_stamps.proofs.Ordered.{In-append, In-append_left, In-append_right, In-from_sorted, last_is_greatest, greatest_from_least, In-filter_map, filter_map-In, least_is, one_least}
+use Rattle.line_stamps.proofs.Ordered.{Ascends-take, In-append, In-append_left, In-append_right, In-from_sorted, before_from_take, take_from_before, last_is_greatest, greatest_from_least, In-filter_map, filter_map-In, least_is, one_least}
 use Rattle.log_record.specs.declared.record.Record.{Record}
 use Rattle.log_record.specs.declared.record.Entry.{Entry}
 use Rattle.log_record.specs.Entries.{key_of, entry_cmp, entries}
@@ -56,23 +58,22 @@ one_greatest logs p None (Some b) g h = let f = g b h.0 in let k = h.1 in cc
 one_greatest logs p (Some a) None g h = let f = h a g.0 in let k = g.1 in cc
 one_greatest logs p (Some a) (Some b) g h = ap (λ e. Some e) (untied logs a b g.0 h.0 (g.2 b h.0 h.1) (h.2 a g.0 g.1))
 
--- parts of ascending lists
-before_each : (xs : List Entry) (e : Entry) (ys : List Entry) → Ascends entry_cmp (xs ++ e ∷ ys) → (x : Entry) → In x xs → is_lt (entry_cmp x e) ≡ true
-before_each [] e ys h x p = absurd p
-before_each (z ∷ xs) e ys h x (inl q) = subst (λ w. is_lt (entry_cmp w e) ≡ true) q (h.0 e (In-append_right e xs (e ∷ ys) (inl refl)))
-before_each (z ∷ xs) e ys h x (inr q) = before_each xs e ys h.1 x q
-
 after_each : (xs : List Entry) (e : Entry) (ys : List Entry) → Ascends entry_cmp (xs ++ e ∷ ys) → (y : Entry) → In y ys → is_lt (entry_cmp e y) ≡ true
 after_each [] e ys h y p = h.0 y p
 after_each (z ∷ xs) e ys h y p = after_each xs e ys h.1 y p
 
-ascends_front : (xs ys : List Entry) → Ascends entry_cmp (xs ++ ys) → Ascends entry_cmp xs
-ascends_front [] ys h = tt
-ascends_front (x ∷ xs) ys h = (λ y p. h.0 y (In-append_left y xs ys p), ascends_front xs ys h.1)
+abbrev Clean : List (List Record) → List Entry → Type 0
+Clean logs xs = (x : Entry) → In x xs → address_fault (entries logs) x ≡ None
 
 module _ (logs : List (List Record)) (xs : List Entry) (e : Entry) (ys : List Entry) (is : by_key logs ≡ xs ++ e ∷ ys) where
   up : Ascends entry_cmp (xs ++ e ∷ ys)
   up = subst (λ es. Ascends entry_cmp es) is (by_key-ascends logs)
+
+  here : slice_get (xs ++ e ∷ ys) (length xs) ≡ Some e
+  here = slice_get-get_or (xs ++ e ∷ ys) (length xs) e (omega (arith, length-append xs (e ∷ ys))) ∙ ap (λ x. Some x) (get_or_at xs e ys e (length xs) refl)
+
+  front : take (length xs) (xs ++ e ∷ ys) ≡ xs
+  front = take_at xs (e ∷ ys) (length xs) refl
 
   pub in_set : (x : Entry) → In x (xs ++ e ∷ ys) → In x (entries logs)
   in_set x p = in_set_by_key logs x (subst (λ es. In x es) (sym is) p)
@@ -84,19 +85,13 @@ module _ (logs : List (List Record)) (xs : List Entry) (e : Entry) (ys : List En
   was_done : (x : Entry) → In x (entries logs) → is_earlier_store e x ≡ true → In x xs × (stores_to e.logged.addr x ≡ true)
   was_done x p t =
       let parts = and_parts (stores_to e.logged.addr x) (is_lt (entry_cmp x e)) t in
-      elim (In-append x xs (e ∷ ys) (in_split x p)) [
-        | inl q ↦ (q, parts.0)
-        | inr q ↦ elim q [
-          | inl same ↦ absurd (let a : is_lt (entry_cmp x e) ≡ true = parts.1 in let b : is_lt (entry_cmp x e) ≡ false = subst (λ w. is_lt (entry_cmp w e) ≡ false) same (lt_irrefl entry_cmp entry_total e) in cc)
-          | inr later ↦ absurd (let a : is_lt (entry_cmp x e) ≡ true = parts.1 in let b : is_lt (entry_cmp x e) ≡ false = lt_asym entry_cmp entry_total e x (after_each xs e ys up x later) in cc)
-        ]
-      ]
+      (subst (λ es. In x es) front (take_from_before entry_cmp entry_total (xs ++ e ∷ ys) (length xs) e x up here (in_split x p) parts.1), parts.0)
 
   last_is_right : (r : Option Entry) → IsGreatest entry_cmp (stores_to e.logged.addr) xs r → IsGreatest entry_cmp (is_earlier_store e) (entries logs) r
   last_is_right None h = λ x p. false_from_ne_true (is_earlier_store e x) (λ t. let w = was_done x p t in let no : stores_to e.logged.addr x ≡ false = h x w.0 in let yes : stores_to e.logged.addr x ≡ true = w.1 in cc)
   last_is_right (Some s) h = (
     in_set s (In-append_left s xs (e ∷ ys) h.0),
-    and_from (stores_to e.logged.addr s) (is_lt (entry_cmp s e)) h.1 (before_each xs e ys up s h.0),
+    and_from (stores_to e.logged.addr s) (is_lt (entry_cmp s e)) h.1 (before_from_take entry_cmp entry_total (xs ++ e ∷ ys) (length xs) e s up here (subst (λ es. In s es) (sym front) h.0)),
     λ x p t. let w = was_done x p t in h.2 x w.0 w.1,
   )
 
@@ -106,33 +101,28 @@ module _ (logs : List (List Record)) (xs : List Entry) (e : Entry) (ys : List En
       let last : Option Entry = last_store_to e.logged.addr xs in
       ap (act_fault e.logged.act e)
       (one_greatest logs (is_earlier_store e) last (right_store (entries logs) e)
-      (last_is_right last (last_is_greatest entry_cmp entry_total (stores_to e.logged.addr) xs (ascends_front xs (e ∷ ys) up)))
+      (last_is_right last (last_is_greatest entry_cmp entry_total (stores_to e.logged.addr) xs (subst (λ es. Ascends entry_cmp es) front (Ascends-take entry_cmp entry_total (length xs) (xs ++ e ∷ ys) up))))
       (greatest_from_least entry_cmp entry_total (is_earlier_store e) (entries logs)))
 
-abbrev Clean : List (List Record) → List Entry → Type 0
-Clean logs xs = (x : Entry) → In x xs → address_fault (entries logs) x ≡ None
-
-first_is_least : (logs : List (List Record)) (xs : List Entry) (e : Entry) (ys : List Entry) (f : AddressFault) → by_key logs ≡ xs ++ e ∷ ys → Clean logs xs → address_fault (entries logs) e ≡ Some f → Some f ≡ least_address_fault (entries logs)
-first_is_least logs xs e ys f is clean q =
-    one_least fault_cmp fault_total (address_faults (entries logs)) (address_faults (entries logs)) (Some f) (least_address_fault (entries logs)) (λ x y p r t. tied_faults x y t) (λ x p. p) (λ x p. p)
-    (In-filter_map (address_fault (entries logs)) (entries logs) e f (in_set logs xs e ys is e (In-append_right e xs (e ∷ ys) (inl refl))) q, λ x p. above x (filter_map-In (address_fault (entries logs)) (entries logs) x p))
-    (least_is fault_cmp fault_total (address_faults (entries logs)))
-  where
-    up : Ascends entry_cmp (xs ++ e ∷ ys)
-    up = subst (λ es. Ascends entry_cmp es) is (by_key-ascends logs)
-
-    above : (x : AddressFault) → (y : Entry) × In y (entries logs) × (address_fault (entries logs) y ≡ Some x) → is_lt (fault_cmp x f) ≡ false
-    above x t = elim (In-append t.0 xs (e ∷ ys) (subst (λ es. In t.0 es) is (In-from_sorted entry_cmp t.0 (entries logs) t.1))) [
-      | inl p ↦ (let n : address_fault (entries logs) t.0 ≡ None = clean t.0 p in let m : address_fault (entries logs) t.0 ≡ Some x = t.2 in cc)
-      | inr p ↦ elim p [
-        | inl r ↦ (let m : Some f ≡ Some x = sym q ∙ ap (address_fault (entries logs)) r ∙ t.2 in let w : f ≡ x = cc in subst (λ z. is_lt (fault_cmp z f) ≡ false) w (lt_irrefl fault_cmp fault_total f))
-        | inr r ↦ (let a : is_lt (entry_cmp e t.0) ≡ true = after_each xs e ys up t.0 r in
-            let b : key_of e ≡ f.key = sym (key_of_fault e.logged.act e (right_store (entries logs) e) f q) in
-            let c : key_of t.0 ≡ x.key = sym (key_of_fault t.0.logged.act t.0 (right_store (entries logs) t.0) x t.2) in
-            let d : is_lt (key_cmp f.key x.key) ≡ true = subst (λ z. is_lt (key_cmp f.key z) ≡ true) c (subst (λ z. is_lt (key_cmp z (key_of t.0)) ≡ true) b a) in
-            lt_asym fault_cmp fault_total f x (less_by_key f x d))
+  -- the first of them that has a fault has the least
+  first_is_least : (f : AddressFault) → Clean logs xs → address_fault (entries logs) e ≡ Some f → Some f ≡ least_address_fault (entries logs)
+  first_is_least f clean q =
+      one_least fault_cmp fault_total (address_faults (entries logs)) (address_faults (entries logs)) (Some f) (least_address_fault (entries logs)) (λ x y p r t. tied_faults x y t) (λ x p. p) (λ x p. p)
+      (In-filter_map (address_fault (entries logs)) (entries logs) e f (in_set e (In-append_right e xs (e ∷ ys) (inl refl))) q, λ x p. above x (filter_map-In (address_fault (entries logs)) (entries logs) x p))
+      (least_is fault_cmp fault_total (address_faults (entries logs)))
+    where
+      above : (x : AddressFault) → (y : Entry) × In y (entries logs) × (address_fault (entries logs) y ≡ Some x) → is_lt (fault_cmp x f) ≡ false
+      above x t = elim (In-append t.0 xs (e ∷ ys) (subst (λ es. In t.0 es) is (In-from_sorted entry_cmp t.0 (entries logs) t.1))) [
+        | inl p ↦ (let n : address_fault (entries logs) t.0 ≡ None = clean t.0 p in let m : address_fault (entries logs) t.0 ≡ Some x = t.2 in cc)
+        | inr p ↦ elim p [
+          | inl r ↦ (let m : Some f ≡ Some x = sym q ∙ ap (address_fault (entries logs)) r ∙ t.2 in let w : f ≡ x = cc in subst (λ z. is_lt (fault_cmp z f) ≡ false) w (lt_irrefl fault_cmp fault_total f))
+          | inr r ↦ (let a : is_lt (entry_cmp e t.0) ≡ true = after_each xs e ys up t.0 r in
+              let b : key_of e ≡ f.key = sym (key_of_fault e.logged.act e (right_store (entries logs) e) f q) in
+              let c : key_of t.0 ≡ x.key = sym (key_of_fault t.0.logged.act t.0 (right_store (entries logs) t.0) x t.2) in
+              let d : is_lt (key_cmp f.key x.key) ≡ true = subst (λ z. is_lt (key_cmp f.key z) ≡ true) c (subst (λ z. is_lt (key_cmp z (key_of t.0)) ≡ true) b a) in
+              lt_asym fault_cmp fault_total f x (less_by_key f x d))
+        ]
       ]
-    ]
 
 none_at_end : (logs : List (List Record)) → Clean logs (by_key logs) → None ≡ least_address_fault (entries logs)
 none_at_end logs clean = go (least_address_fault (entries logs)) (least_is fault_cmp fault_total (address_faults (entries logs)))
@@ -156,7 +146,7 @@ along logs xs (e ∷ ys) is clean =
 
     go : (o : Option AddressFault) → o ≡ address_fault (entries logs) e → (Clean logs (xs ++ e ∷ []) → first_along (xs ++ e ∷ []) ys ≡ least_address_fault (entries logs)) → option_or o (first_along (xs ++ e ∷ []) ys) ≡ least_address_fault (entries logs)
     go None q ih = ih (more (sym q))
-    go (Some f) q ih = first_is_least logs xs e ys f is clean (sym q)
+    go (Some f) q ih = first_is_least logs xs e ys is f clean (sym q)
 
 pub along_is_least : (logs : List (List Record)) → first_along [] (by_key logs) ≡ least_address_fault (entries logs)
 along_is_least logs = along logs [] (by_key logs) refl (λ x p. absurd p)

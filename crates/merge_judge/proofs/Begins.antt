@@ -1,9 +1,9 @@
 -- What a text begins with.
-use Rattle.std.specs.Prelude.{◌≡◌, ℕ, List, [], ◌∷◌, ◌++◌, refl, length, map}
+use Rattle.std.specs.Prelude.{◌≡◌, ℕ, List, [], ◌∷◌, ◌++◌, length, map}
 use Rattle.std.specs.List.{AllByRecursion}
-use Rattle.std.proofs.Common.{◌∙◌, ap, subst, inl, inr, arith, append_assoc, length-append}
+use Rattle.std.proofs.Common.{◌∙◌, ap, inl, inr, arith, append_assoc, length-append}
 use Rattle.std.proofs.lemmas.Grind.{flat_map-append}
-use Rattle.std.proofs.lemmas.List.{map-append}
+use Rattle.std.proofs.lemmas.List.{map-append, nil_from_length}
 use Rattle.log_record.specs.declared.format.Format.{Format}
 use Rattle.log_record.specs.declared.record.Record.{Record}
 use Rattle.log_record.specs.Line.{FitsIn, end_text, format_number, header_text, record_text}
@@ -12,6 +12,7 @@ use Rattle.log_file.specs.declared.stage.Stage.TheVariants as last_read
 use Rattle.log_file.specs.Answering.{Answering, HasAnswered}
 use Rattle.log_file.specs.Log.{Spells, begun, text_of, with_lf}
 use Rattle.log_file.specs.Standing.{IsSound, whole_text}
+use Rattle.log_file.proofs.Fed.{same_log}
 use Rattle.merge_judge.specs.Begun.{BeginsLog}
 
 -- the lines of some records, and those of more
@@ -37,11 +38,8 @@ begins_sound (last_read.Ended format) core cores records line more text h is =
 -- the records that were answered
 pub begins_there : (core cores : ℕ) (s : Answering) → s.core ≡ core → s.cores ≡ cores → (bytes unused still : List ℕ) (records : List Record) → HasAnswered s bytes records → BeginsLog core cores ((bytes ++ unused) ++ still) records
 begins_there core cores s core_is cores_is bytes unused still records h =
-    subst (λ k. BeginsLog core k text records) cores_is (subst (λ k. BeginsLog k s.cores text records) core_is
-    (begins_sound s.stage s.core s.cores records s.begun (unused ++ still) text h.sound (append_assoc bytes unused still ∙ ap (λ xs. xs ++ (unused ++ still)) h.text)))
-  where
-    text : List ℕ
-    text = (bytes ++ unused) ++ still
+    same_log (λ c n. BeginsLog c n ((bytes ++ unused) ++ still) records) core_is cores_is
+    (begins_sound s.stage s.core s.cores records s.begun (unused ++ still) ((bytes ++ unused) ++ still) h.sound (append_assoc bytes unused still ∙ ap (λ xs. xs ++ (unused ++ still)) h.text))
 
 -- a log that is spelled
 pub begins_whole : (core cores : ℕ) (text : List ℕ) (records : List Record) → Spells core cores text records → BeginsLog core cores text records
@@ -53,12 +51,8 @@ each_front : (P : Record → Type 0) (front back : List Record) → AllByRecursi
 each_front P [] back h = tt
 each_front P (r ∷ front) back h = (h.0, each_front P front back h.1)
 
-none_front : (front back : List Record) → front ++ back ≡ [] → front ≡ []
-none_front [] back h = refl
-none_front (r ∷ front) back h = absurd cc
-
 pub begins_front : (core cores : ℕ) (text : List ℕ) (front back : List Record) → BeginsLog core cores text (front ++ back) → BeginsLog core cores text front
-begins_front core cores text front back (inl none) = inl (none_front front back none)
+begins_front core cores text front back (inl none) = inl (nil_from_length front (omega (arith, ap length none, length-append front back)))
 begins_front core cores text front back (inr (format, (rest, is_log, is))) = inr (
   format,
   (

@@ -1,11 +1,11 @@
 -- The answer to a set whose logs were merged to their ends.
-use Rattle.std.specs.Prelude.{◌≡◌, ℕ, zero, suc, ◌+◌, ◌<◌, Bool, true, false, List, [], ◌∷◌, ◌++◌, refl, Option, Some, None, Ok, Err, length, slice_get}
+use Rattle.std.specs.Prelude.{◌≡◌, ℕ, suc, ◌+◌, ◌<◌, Bool, true, false, List, [], ◌∷◌, ◌++◌, refl, Option, Some, None, Ok, Err, length, slice_get}
 use Rattle.std.specs.Option.{option_map, option_map_or}
 use Rattle.std.specs.Ordering.{is_lt, nat_cmp}
 use Rattle.std.proofs.Common.{sym, ◌∙◌, ap, subst, inl, inr, arith, append-nil}
 use Rattle.std.proofs.lemmas.Bool.{cases_lt, false_from_ne_true}
 use Rattle.std.proofs.lemmas.Map.Lookups.{exact_unsigned}
-use Rattle.std.proofs.lemmas.Option.{slice_get_within}
+use Rattle.std.proofs.lemmas.Option.{get_or_from_slice_get, slice_get-get_or, slice_get_within}
 use Rattle.line_stamps.specs.Ordered.{In, IsLeastIn}
 use Rattle.line_stamps.proofs.Ordered.{least_is, one_least}
 use Rattle.log_record.specs.declared.record.Record.{Record}
@@ -23,20 +23,19 @@ use Rattle.core_check.proofs.OrderFaultFacts.{FaultIn, fault_in_log, fault_of_lo
 use Rattle.log_file.specs.declared.fault.LogFault.{LogFault}
 use Rattle.log_file.specs.declared.fault.LogFault.TheVariants.{At, OutOfMemory, Read}
 use Rattle.log_file.specs.Answers.{IsFaultOrDevice}
-use Rattle.log_file.specs.Devices.{Tells}
-use Rattle.log_file.specs.Log.{IsFirstFault, Spells}
+use Rattle.log_file.specs.Log.{Spells}
 use Rattle.log_file.specs.Sets.{NoneFailed, SpellBefore, SpellFrom, SpellSet, TellEach, text_at, ReaderFailed}
 use Rattle.verdict.proofs.ProgramOrder.{less_index}
 use Rattle.verdict.specs.Counts.{IsBadCount}
 use Rattle.verdict.specs.Judgement.{IsAnswerTo}
 use Rattle.verdict.specs.SetFaults.{from_set}
 use Rattle.merge_judge.specs.LaneParts.{LaneParts}
-use Rattle.merge_judge.specs.inner.Lanes.{AllEnded, IsMerged, IsStage, NoFalls, front_list, log_at}
+use Rattle.merge_judge.specs.inner.Lanes.{AllEnded, IsMerged, NoFalls, front_list, log_at}
 use Rattle.merge_judge.specs.Answer.{IsQuietUpTo}
-use Rattle.merge_judge.specs.Begun.{BeginsLog}
-use Rattle.merge_judge.specs.inner.FinalVerdict.{AreBegun, NoneFaulty, NoneFalls, IsFinalVerdict}
+use Rattle.merge_judge.specs.inner.FinalVerdict.{AreBegun, IsClean, NoneFaulty, NoneFalls, IsFinalVerdict}
 use Rattle.address_check.specs.declared.fault.AddressFault.{AddressFault}
 use Rattle.address_check.specs.AddressFaults.{least_address_fault}
+use Rattle.verdict.specs.declared.answer.Verdict.{Verdict}
 use Rattle.verdict.specs.declared.answer.Verdict.TheVariants.{Yes, No}
 use Rattle.verdict.specs.declared.judge_fault.JudgeFault.TheVariants.{Read as ReadFile}
 use Rattle.verdict.specs.declared.rule.Rule.TheVariants.{CoreOrder}
@@ -44,29 +43,10 @@ use Rattle.verdict.specs.Faults.{from_address}
 use Rattle.verdict.specs.VerdictOf.{verdict_of, verdict_with}
 use Rattle.merge_judge.specs.inner.Memory.{first_along}
 use Rattle.merge_judge.proofs.Along.{along_is_least}
-use Rattle.merge_judge.proofs.Begins.{begins_whole}
 use Rattle.merge_judge.proofs.Quiet.{quiet_all, quiet_to}
+use Rattle.merge_judge.proofs.Texts.{begun_texts}
 
--- ---- one text for each reader
-
-pub gather : {S : Type 0} (P : ℕ → S → List ℕ → Type 0) (xs : List S) → ((k : ℕ) (x : S) → slice_get xs k ≡ Some x → (text : List ℕ) × P k x text)
-    → (texts : List (List ℕ)) × ((length texts ≡ length xs) × ((k : ℕ) (x : S) → slice_get xs k ≡ Some x → P k x (text_at texts k)))
-gather P [] f = ([], (refl, λ k x h. absurd cc))
-gather {S} P (x ∷ xs) f =
-    let first = f 0 x refl in
-    let rest = gather (λ k. P (suc k)) xs (λ k y h. f (suc k) y h) in
-    (first.0 ∷ rest.0, (ap suc rest.1.0, go first rest))
-  where
-    go : (first : (text : List ℕ) × P 0 x text) (rest : (texts : List (List ℕ)) × ((length texts ≡ length xs) × ((k : ℕ) (y : S) → slice_get xs k ≡ Some y → P (suc k) y (text_at texts k))))
-        → (k : ℕ) (y : S) → slice_get (x ∷ xs) k ≡ Some y → P k y (text_at (first.0 ∷ rest.0) k)
-    go first rest zero y h = let e : x ≡ y = cc in subst (λ z. P 0 z first.0) e first.1
-    go first rest (suc k) y h = rest.1.1 k y h
-
-pub tell_each : {S : Type 0} (remaining : S → Option (List ℕ)) (xs : List S) (texts : List (List ℕ)) → length texts ≡ length xs → ((k : ℕ) (x : S) → slice_get xs k ≡ Some x → Tells (remaining x) (text_at texts k)) → TellEach remaining xs texts
-tell_each remaining [] [] long h = tt
-tell_each remaining [] (text ∷ texts) long h = absurd (omega (arith, long))
-tell_each remaining (x ∷ xs) [] long h = absurd (omega (arith, long))
-tell_each remaining (x ∷ xs) (text ∷ texts) long h = (h 0 x refl, tell_each remaining xs texts (omega (arith, long)) (λ k y q. h (suc k) y q))
+-- ---- the answer
 
 spell_from : (core cores : ℕ) (texts : List (List ℕ)) (logs : List (List Record)) → length logs ≡ length texts → ((k : ℕ) → k < length texts → Spells (core + k) cores (text_at texts k) (log_at logs k)) → SpellFrom core cores texts logs
 spell_from core cores [] [] long h = tt
@@ -77,10 +57,11 @@ spell_from core cores (text ∷ texts) (log ∷ logs) long h = (
   spell_from (core + 1) cores texts logs (omega (arith, long)) (λ k l. subst (λ c. Spells c cores (text_at texts k) (log_at logs k)) (let e : core + suc k ≡ core + 1 + k = omega arith in e) (h (suc k) (omega arith))),
 )
 
-pub log_there : (logs : List (List Record)) (k : ℕ) → k < length logs → slice_get logs k ≡ Some (log_at logs k)
-log_there [] k l = absurd (omega arith)
-log_there (log ∷ logs) zero l = refl
-log_there (log ∷ logs) (suc k) l = log_there logs k (omega arith)
+-- the least fault of core order
+pub least_core : (logs : List (List Record)) (o : Option RuleFault) → IsLeastIn core_fault_cmp (order_faults logs) o → o ≡ least_core_fault logs
+least_core logs o h =
+    one_least core_fault_cmp core_fault_total (order_faults logs) (order_faults logs) o (least_core_fault logs)
+    (λ a b p q tied. tied_core_faults a b tied) (λ f p. p) (λ f p. p) h (least_is core_fault_cmp core_fault_total (order_faults logs))
 
 pub no_count : (file : ℕ) (fault : LogFault) → IsBadCount (from_set file fault) → ⊥
 no_count file (At line f) h = h
@@ -89,99 +70,37 @@ no_count file Read h = h
 
 module _ {S : Type 0} (remaining : S → Option (List ℕ)) (failed : S → ℕ) (before after : List S) (lanes : List LaneParts) (numbers : List ℕ) (clean : Bool) (merged : List (List Record)) (done : List Entry)
     (m : IsMerged remaining failed before after lanes numbers clean merged done) (ended : AllEnded lanes) where
-  -- what a reader told of a log: the log of these records, or its fault
-  abbrev IsTextOf : ℕ → S → List ℕ → Type 0
-  IsTextOf k b text =
-      Tells (remaining b) text × ((l : LaneParts) → slice_get lanes k ≡ Some l →
-      (l.fault ≡ None → Spells k (length before) text (log_at merged k)) × ((f : LogFault) → l.fault ≡ Some f → IsFaultOrDevice k (length before) text f))
-      × BeginsLog k (length before) text (log_at merged k)
+  given : (texts : List (List ℕ)) × (TellEach remaining before texts × AreBegun texts lanes merged)
+  given = begun_texts remaining failed before after lanes numbers clean merged done m
 
-  text_of : (k : ℕ) (b : S) → slice_get before k ≡ Some b → (text : List ℕ) × IsTextOf k b text
-  text_of k b hb =
-      let w = slice_get_within before k b hb in
-      let l = there lanes k (let a = m.many in omega (arith, w, a)) in
-      let a = there after k (let r = m.readers in omega (arith, w, r)) in
-      let at = m.lane k b a.0 l.0 hb a.1 l.1 in
-      go l.0 l.1 a.0 l.0.fault refl (subst (λ o. IsStage k (length before) (remaining b) (remaining a.0) l.0.log (log_at merged k) o l.0.fault) (ended k l.0 l.1) at.stage)
-    where
-      go : (l : LaneParts) → slice_get lanes k ≡ Some l → (a : S) → (o : Option LogFault) → l.fault ≡ o → IsStage k (length before) (remaining b) (remaining a) l.log (log_at merged k) None l.fault → (text : List ℕ) × IsTextOf k b text
-      go l hl a None e stage =
-          let t = subst (λ o. IsStage k (length before) (remaining b) (remaining a) l.log (log_at merged k) None o) e stage in
-          (t.text, (t.tells, λ x hx. ((λ none. t.spells), λ f some. absurd (let q : l ≡ x = one (slice_get lanes k) l x hl hx in let z : x.fault ≡ None = ap (λ (y : LaneParts). y.fault) (sym q) ∙ e in cc)), begins_whole k (length before) t.text (log_at merged k) t.spells))
-      go l hl a (Some f) e stage =
-          let t = subst (λ o. IsStage k (length before) (remaining b) (remaining a) l.log (log_at merged k) None o) e stage in (
-            t.text,
-            (
-              t.tells,
-              λ x hx. (
-                  let q : l ≡ x = one (slice_get lanes k) l x hl hx in
-                  let z : x.fault ≡ Some f = ap (λ (y : LaneParts). y.fault) (sym q) ∙ e in
-                  (λ none. absurd cc, λ h some. (let same : f ≡ h = cc in subst (λ y. IsFaultOrDevice k (length before) t.text y) same t.holds))),
-              t.begins,
-            ),
-          )
-
-  pub all_texts : (texts : List (List ℕ)) × ((length texts ≡ length before) × ((k : ℕ) (b : S) → slice_get before k ≡ Some b → IsTextOf k b (text_at texts k)))
-  all_texts = gather IsTextOf before text_of
-
-  abbrev pub texts : List (List ℕ)
-  texts = all_texts.0
-
-  long : length texts ≡ length before
-  long = all_texts.1.0
-
-  is_text : (k : ℕ) (b : S) → slice_get before k ≡ Some b → IsTextOf k b (text_at texts k)
-  is_text = all_texts.1.1
-
-  pub tells : TellEach remaining before texts
-  tells = tell_each remaining before texts long (λ k b h. (is_text k b h).0)
-
-  within : (k : ℕ) (l : LaneParts) → slice_get lanes k ≡ Some l → k < length before
-  within k l hl = let w = slice_get_within lanes k l hl in omega (arith, w, m.many)
+  abbrev texts : List (List ℕ)
+  texts = given.0
 
   begun : AreBegun texts lanes merged
-  begun = record {
-    many = m.logs ∙ sym long;
-    lanes_many = m.many ∙ sym long;
-    each = λ k l hl. (let b = there before k (within k l hl) in
-        subst (λ n. BeginsLog k n (text_at texts k) (log_at merged k ++ front_list l.front)) (sym long)
-        (subst (λ o. BeginsLog k (length before) (text_at texts k) (log_at merged k ++ front_list o)) (sym (ended k l hl))
-        (subst (λ rs. BeginsLog k (length before) (text_at texts k) rs) (sym (append-nil (log_at merged k))) (is_text k b.0 b.1).2)));
-    whole = λ k l hl none sound. (let b = there before k (within k l hl) in subst (λ n. Spells k n (text_at texts k) (log_at merged k)) (sym long) (((is_text k b.0 b.1).1 l hl).0 sound));
-  }
+  begun = given.1.1
 
-  spelled : (k : ℕ) → k < length before → ((l : LaneParts) → slice_get lanes k ≡ Some l → l.fault ≡ None) → Spells k (length texts) (text_at texts k) (log_at merged k)
-  spelled k w none =
-      let b = there before k w in
-      let l = there lanes k (let a = m.many in omega (arith, w, a)) in
-      subst (λ n. Spells k n (text_at texts k) (log_at merged k)) (sym long) (((is_text k b.0 b.1).1 l.0 l.1).0 (none l.0 l.1))
+  spelled : (k : ℕ) → k < length lanes → ((l : LaneParts) → slice_get lanes k ≡ Some l → l.fault ≡ None) → Spells k (length texts) (text_at texts k) (log_at merged k)
+  spelled k w none = let l = there lanes k w in begun.whole k l.0 l.1 (ended k l.0 l.1) (none l.0 l.1)
 
-  spelled_before : (file : ℕ) → file < length before → NoneFaulty lanes file → SpellBefore texts file
+  spelled_before : (file : ℕ) → file < length lanes → NoneFaulty lanes file → SpellBefore texts file
   spelled_before file w none k low = (log_at merged k, spelled k (omega (arith, w, low)) (λ l hl. none k l low hl))
 
   -- the first fault of the set
-  pub set_fault : (file : ℕ) (fault : LogFault) (l : LaneParts) → slice_get lanes file ≡ Some l → l.fault ≡ Some fault → NoneFaulty lanes file → IsAnswerTo texts (Err (from_set file fault))
-  set_fault file fault l hl some none = go fault ((is_text file b.0 b.1).1 l hl).1 some
+  set_fault : (file : ℕ) (fault : LogFault) (l : LaneParts) → slice_get lanes file ≡ Some l → l.fault ≡ Some fault → NoneFaulty lanes file → IsAnswerTo texts (Err (from_set file fault))
+  set_fault file fault l hl some none = go fault (begun.faults file l fault hl some)
     where
-      w : file < length before
-      w = let a = slice_get_within lanes file l hl in let n = m.many in omega (arith, a, n)
+      w : file < length lanes
+      w = slice_get_within lanes file l hl
 
-      b : (x : S) × (slice_get before file ≡ Some x)
-      b = there before file w
+      go : (f : LogFault) → IsFaultOrDevice file (length texts) (text_at texts file) f → IsAnswerTo texts (Err (from_set file f))
+      go (At line f) holds = record { there = omega (arith, w, begun.lanes_many); before = spelled_before file w none; first = holds }
+      go OutOfMemory holds = tt
+      go Read holds = (omega (arith, w, begun.lanes_many), spelled_before file w none)
 
-      go : (f : LogFault) → ((h : LogFault) → l.fault ≡ Some h → IsFaultOrDevice file (length before) (text_at texts file) h) → l.fault ≡ Some f → IsAnswerTo texts (Err (from_set file f))
-      go (At line f) holds e = record {
-        there = omega (arith, w, long);
-        before = spelled_before file w none;
-        first = subst (λ n. IsFirstFault file n (text_at texts file) line f) (sym long) (holds (At line f) e);
-      }
-      go OutOfMemory holds e = tt
-      go Read holds e = (omega (arith, w, long), spelled_before file w none)
-
-  pub spell_set : NoneFaulty lanes (length lanes) → SpellSet texts merged
-  spell_set none = spell_from 0 (length texts) texts merged (m.logs ∙ sym long)
+  spell_set : NoneFaulty lanes (length lanes) → SpellSet texts merged
+  spell_set none = spell_from 0 (length texts) texts merged begun.many
       (λ k w. subst (λ c. Spells c (length texts) (text_at texts k) (log_at merged k)) (let e : k ≡ 0 + k = omega arith in e)
-      (spelled k (omega (arith, w, long)) (λ l hl. none k l (let a = slice_get_within lanes k l hl in a) hl)))
+      (spelled k (omega (arith, w, begun.lanes_many)) (λ l hl. none k l (slice_get_within lanes k l hl) hl)))
 
   -- ---- faults of core order
 
@@ -196,23 +115,18 @@ module _ {S : Type 0} (remaining : S → Option (List ℕ)) (failed : S → ℕ)
   log_of_fault : (f : RuleFault) (found : FaultIn merged f) → (f.id.core < length lanes) × (is_core_fault (log_at merged f.id.core) f.id.index ≡ true)
   log_of_fault f found =
       let w = slice_get_within merged f.id.core found.log found.place in
-      let same : found.log ≡ log_at merged f.id.core = one (slice_get merged f.id.core) found.log (log_at merged f.id.core) found.place (log_there merged f.id.core w) in
+      let same : found.log ≡ log_at merged f.id.core = sym (get_or_from_slice_get merged f.id.core found.log [] found.place) in
       ((let a = m.logs in let b = m.many in omega (arith, w, a, b)), subst (λ rs. is_core_fault rs f.id.index ≡ true) same found.falls_there)
 
-  is_the_least : (o : Option RuleFault) → IsLeastIn core_fault_cmp (order_faults merged) o → o ≡ least_core_fault merged
-  is_the_least o h =
-      one_least core_fault_cmp core_fault_total (order_faults merged) (order_faults merged) o (least_core_fault merged)
-      (λ a b p q tied. tied_core_faults a b tied) (λ f p. p) (λ f p. p) h (least_is core_fault_cmp core_fault_total (order_faults merged))
-
   pub none_falls : NoneFalls lanes (length lanes) → None ≡ least_core_fault merged
-  none_falls none = is_the_least None (λ f p. (
+  none_falls none = least_core merged None (λ f p. (
       let t = log_of_fault f (fault_in_log merged f p) in
       let l = there lanes f.id.core t.0 in
       let h : IsLeastWhere (is_core_fault (log_at merged f.id.core)) None = subst (λ o. IsLeastWhere (is_core_fault (log_at merged f.id.core)) o) (none f.id.core l.0 t.0 l.1) (fall_of f.id.core l.0 l.1) in
       let no_fall = h f.id.index in let falls_here = t.1 in cc))
 
   pub first_falls : (core index : ℕ) (l : LaneParts) → slice_get lanes core ≡ Some l → l.falls ≡ Some index → NoneFalls lanes core → Some (order_fault (record { core = core; index = index })) ≡ least_core_fault merged
-  first_falls core index l hl some none = is_the_least (Some fault) (fault_of_log merged (record { core = core; index = index }) (log_at merged core) (log_there merged core w) least.0, above)
+  first_falls core index l hl some none = least_core merged (Some fault) (fault_of_log merged (record { core = core; index = index }) (log_at merged core) (slice_get-get_or merged core [] w) least.0, above)
     where
       fault : RuleFault
       fault = order_fault (record { core = core; index = index })
@@ -285,7 +199,7 @@ module _ {S : Type 0} (remaining : S → Option (List ℕ)) (failed : S → ℕ)
   pub final_fault : (file : ℕ) (fault : LogFault) (l : LaneParts) → slice_get lanes file ≡ Some l → l.fault ≡ Some fault → NoneFaulty lanes file → IsFinalVerdict remaining failed before after lanes merged (Err (from_set file fault))
   final_fault file fault l hl some none = record {
     texts = texts;
-    tells = tells;
+    tells = given.1.0;
     begun = begun;
     answers = set_fault file fault l hl some none;
     clean = tt;
@@ -294,17 +208,22 @@ module _ {S : Type 0} (remaining : S → Option (List ℕ)) (failed : S → ℕ)
     quiet = quiet_at file fault l hl some none;
   }
 
-  pub final_fall : (core index : ℕ) (l : LaneParts) → slice_get lanes core ≡ Some l → l.falls ≡ Some index → NoneFalls lanes core → NoneFaulty lanes (length lanes)
-      → IsFinalVerdict remaining failed before after lanes merged (Ok (No (record { id = record { core = core; index = index }; rule = CoreOrder })))
-  final_fall core index l hl some none whole = record {
+  final : (verdict : Verdict) → IsAnswerTo texts (Ok verdict) → IsClean lanes merged texts (Ok verdict) → NoneFaulty lanes (length lanes) → IsFinalVerdict remaining failed before after lanes merged (Ok verdict)
+  final verdict answers clean whole = record {
     texts = texts;
-    tells = tells;
+    tells = given.1.0;
     begun = begun;
-    answers = (merged, spell_set whole, ap (λ o. verdict_with o merged) (first_falls core index l hl some none));
-    clean = (spell_set whole, inl (refl, (subst (λ o. IsLeastWhere (is_core_fault (log_at merged core)) o) some (fall_of core l hl)).0));
+    answers = answers;
+    clean = clean;
     failed_at = tt;
     quiet = quiet_whole whole;
   }
+
+  pub final_fall : (core index : ℕ) (l : LaneParts) → slice_get lanes core ≡ Some l → l.falls ≡ Some index → NoneFalls lanes core → NoneFaulty lanes (length lanes)
+      → IsFinalVerdict remaining failed before after lanes merged (Ok (No (record { id = record { core = core; index = index }; rule = CoreOrder })))
+  final_fall core index l hl some none whole =
+      final (No (record { id = record { core = core; index = index }; rule = CoreOrder })) (merged, spell_set whole, ap (λ o. verdict_with o merged) (first_falls core index l hl some none))
+      (spell_set whole, inl (refl, (subst (λ o. IsLeastWhere (is_core_fault (log_at merged core)) o) some (fall_of core l hl)).0)) whole
 
   module _ (none : NoneFalls lanes (length lanes)) (whole : NoneFaulty lanes (length lanes)) (address : Option AddressFault) (first : NoFalls lanes → address ≡ first_along [] done) where
     steady : NoFalls lanes
@@ -320,25 +239,11 @@ module _ {S : Type 0} (remaining : S → Option (List ℕ)) (failed : S → ℕ)
         ∙ ap (λ o. verdict_with o merged) (none_falls none)
 
     pub final_address : (fault : AddressFault) → address ≡ Some fault → IsFinalVerdict remaining failed before after lanes merged (Ok (No (from_address fault)))
-    final_address fault is = record {
-      texts = texts;
-      tells = tells;
-      begun = begun;
-      answers = (merged, spell_set whole, ap (λ o. option_map_or No (option_map from_address o) (Yes (length done))) (sym is) ∙ verdict_is);
-      clean = (spell_set whole, inr (steady, (fault, sym least_address ∙ is, refl)));
-      failed_at = tt;
-      quiet = quiet_whole whole;
-    }
+    final_address fault is =
+        final (No (from_address fault)) (merged, spell_set whole, ap (λ o. option_map_or No (option_map from_address o) (Yes (length done))) (sym is) ∙ verdict_is)
+        (spell_set whole, inr (steady, (fault, sym least_address ∙ is, refl))) whole
 
     pub final_yes : (count : ℕ) → count ≡ length done → address ≡ None → IsFinalVerdict remaining failed before after lanes merged (Ok (Yes count))
     final_yes count counted is =
         let says : Yes count ≡ verdict_of merged = ap (λ n. Yes n) counted ∙ ap (λ o. option_map_or No (option_map from_address o) (Yes (length done))) (sym is) ∙ verdict_is in
-        record {
-          texts = texts;
-          tells = tells;
-          begun = begun;
-          answers = (merged, spell_set whole, says);
-          clean = (spell_set whole, says, λ k l hl. (steady k l hl, whole k l (slice_get_within lanes k l hl) hl));
-          failed_at = tt;
-          quiet = quiet_whole whole;
-        }
+        final (Yes count) (merged, spell_set whole, says) (spell_set whole, says, λ k l hl. (steady k l hl, whole k l (slice_get_within lanes k l hl) hl)) whole

@@ -1,5 +1,5 @@
 -- A log followed record by record.
-use Rattle.std.proofs.Common.{◌≡◌, ℕ, ◌+◌, ◌-◌, ◌<◌, ◌≤◌, ◌^◌, List, [], ◌∷◌, ◌++◌, length, take, drop, Option, None, Some, Result, Ok, Err, refl, sym, ap, subst, ◌∙◌, arith, append_assoc, append-nil, length-append}
+use Rattle.std.proofs.Common.{◌≡◌, ℕ, ◌+◌, ◌-◌, ◌<◌, ◌≤◌, ◌^◌, List, [], ◌∷◌, ◌++◌, length, take, drop, Option, None, Some, Result, Ok, Err, sym, ap, subst, ◌∙◌, arith, append_assoc, append-nil, length-append}
 use Rattle.std.specs.Prelude.{is_some, true, false}
 use Rattle.std.specs.Io.KnownBytes.{Consumes, IsAtEnd}
 use Rattle.std.proofs.lemmas.List.{take-append-drop, drop-drop, drop_all, drop-take}
@@ -13,9 +13,10 @@ use Rattle.log_file.specs.Feeding.{IsSettled}
 use Rattle.log_file.specs.Log.{Spells}
 use Rattle.log_file.proofs.Bounded.{read_long}
 use Rattle.log_file.proofs.Devices.{told, consumes_more, consumes_told, consumes_end}
+use Rattle.log_file.proofs.Fed.{same_log, text_fault}
 use Rattle.merge_judge.specs.Begun.{BeginsLog}
 use Rattle.merge_judge.specs.OpenedLog.{OpenedLog}
-use Rattle.merge_judge.specs.inner.Following.{EndsAt, EndsWhole, Follows, IsNext, TakesOne}
+use Rattle.merge_judge.specs.inner.Following.{EndsAt, EndsWhole, Follows, IsNextOn, TakesOne}
 use Rattle.merge_judge.proofs.Begins.{begins_there}
 
 -- ---- one record of the bytes that were read
@@ -50,11 +51,6 @@ settled_holds core cores front rest (At k f) h = h rest
 settled_holds core cores front rest OutOfMemory h = tt
 settled_holds core cores front rest Read h = absurd h
 
-fault_holds : (core cores : ℕ) (bytes : List ℕ) (f : LogFault) → IsFaultOf core cores bytes f → IsFaultOrDevice core cores bytes f
-fault_holds core cores bytes (At k f) h = h
-fault_holds core cores bytes OutOfMemory h = absurd h
-fault_holds core cores bytes Read h = absurd h
-
 module _ (core cores : ℕ) (first still : Option (List ℕ)) (log : OpenedLog) (records : List Record) (h : Follows core cores first still log records) where
   begins_so_far : BeginsLog core cores ((h.bytes ++ log.unused) ++ told still) records
   begins_so_far = begins_there core cores log.reader h.core_is h.cores_is h.bytes log.unused (told still) records h.answered
@@ -70,9 +66,7 @@ module _ (core cores : ℕ) (first still : Option (List ℕ)) (log new : OpenedL
   -- a fault of the bytes that were read
   pub refused_at : (f : LogFault) → ((bytes : List ℕ) (rs : List Record) → HasAnswered log.reader bytes rs → TakesOne bytes rs log (Err f) new) → EndsAt core cores first records f
   refused_at f takes =
-      let settled : IsSettled core cores (h.bytes ++ log.unused) f =
-      subst (λ k. IsSettled core k (h.bytes ++ log.unused) f) h.cores_is
-      (subst (λ k. IsSettled k log.reader.cores (h.bytes ++ log.unused) f) h.core_is (takes h.bytes records h.answered)) in
+      let settled = same_log (λ c n. IsSettled c n (h.bytes ++ log.unused) f) h.core_is h.cores_is (takes h.bytes records h.answered) in
       record {
         text = (h.bytes ++ log.unused) ++ told still;
         begins = begins_so_far core cores first still log records h;
@@ -108,19 +102,17 @@ module _ (core cores : ℕ) (first still : Option (List ℕ)) (log new : OpenedL
 
   -- a record, where one was taken
   pub next_is : (o : Option Record) → is_some o ≡ true → new.reader.core ≡ log.reader.core → new.reader.cores ≡ log.reader.cores
-      → ((bytes : List ℕ) (rs : List Record) → HasAnswered log.reader bytes rs → TakesOne bytes rs log (Ok o) new) → IsNext core cores first records (Ok o) still new
+      → ((bytes : List ℕ) (rs : List Record) → HasAnswered log.reader bytes rs → TakesOne bytes rs log (Ok o) new) → IsNextOn core cores first records (Ok o) still (record { log = new; whole = false })
   next_is None some same_core same_cores takes = absurd cc
-  next_is (Some r) some same_core same_cores takes = next_taken r same_core same_cores takes
+  next_is (Some r) some same_core same_cores takes = (next_taken r same_core same_cores takes, λ whole. absurd (let e : false ≡ true = whole in cc))
 
-pub no_record : (o : Option Record) → is_some o ≡ false → o ≡ None
-no_record None none = refl
-no_record (Some r) none = absurd cc
+pub takes_none : (log mid : OpenedLog) (o : Option Record) → is_some o ≡ false → ((bytes : List ℕ) (rs : List Record) → HasAnswered log.reader bytes rs → TakesOne bytes rs log (Ok o) mid)
+    → (bytes : List ℕ) (rs : List Record) → HasAnswered log.reader bytes rs → TakesOne bytes rs log (Ok None) mid
+takes_none log mid None none takes = takes
+takes_none log mid (Some r) none takes = absurd cc
 
 pub one_fault : {T : Type 0} (r : Result T LogFault) (x f : LogFault) → r ≡ Err x → x ≡ f → r ≡ Err Read → f ≡ Read
 one_fault r x f p q e = cc
-
-pub not_read : (core cores : ℕ) (bytes : List ℕ) (f : LogFault) → IsFaultOf core cores bytes f → f ≡ Read → ⊥
-not_read core cores bytes f h e = subst (λ g. IsFaultOf core cores bytes g) e h
 
 -- the end of the source
 module _ (core cores : ℕ) (first still : Option (List ℕ)) (log : OpenedLog) (records : List Record) (h : Follows core cores first still log records) (at_end : IsAtEnd still) (none : log.unused ≡ []) where
@@ -131,8 +123,7 @@ module _ (core cores : ℕ) (first still : Option (List ℕ)) (log : OpenedLog) 
   ends_whole spells = record {
     text = h.bytes;
     tells = tells_bytes;
-    spells = subst (λ k. Spells core k h.bytes records) h.cores_is
-        (subst (λ k. Spells k log.reader.cores h.bytes records) h.core_is (spells h.bytes records h.answered));
+    spells = same_log (λ c n. Spells c n h.bytes records) h.core_is h.cores_is (spells h.bytes records h.answered);
   }
 
   pub ends_at : (f : LogFault) → ((bytes : List ℕ) (rs : List Record) → HasAnswered log.reader bytes rs → IsFaultOf log.reader.core log.reader.cores bytes f) → EndsAt core cores first records f
@@ -140,8 +131,7 @@ module _ (core cores : ℕ) (first still : Option (List ℕ)) (log : OpenedLog) 
     text = h.bytes;
     begins = subst (λ xs. BeginsLog core cores xs records) (append-nil (h.bytes ++ []) ∙ append-nil h.bytes) (begins_there core cores log.reader h.core_is h.cores_is h.bytes [] [] records h.answered);
     tells = tells_bytes;
-    holds = fault_holds core cores h.bytes f (subst (λ k. IsFaultOf core k h.bytes f) h.cores_is
-        (subst (λ k. IsFaultOf k log.reader.cores h.bytes f) h.core_is (holds h.bytes records h.answered)));
+    holds = (text_fault core cores h.bytes f (same_log (λ c n. IsFaultOf c n h.bytes f) h.core_is h.cores_is (holds h.bytes records h.answered))).0;
   }
 
 -- ---- that the search for a record ends

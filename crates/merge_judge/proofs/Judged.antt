@@ -8,7 +8,7 @@ use Rattle.verdict.specs.declared.judge_fault.JudgeFault.TheVariants.{BadConfig,
 use Rattle.log_file.specs.Sets.{TellEach}
 use Rattle.verdict.specs.Judgement.{IsAnswerTo, IsYes}
 use Rattle.verdict.specs.ByKey.{by_key, ids_by_key}
-use Rattle.merge_judge.specs.Begun.{BeginsOrder, BeginsWhole, EndBefore, StopsBefore}
+use Rattle.merge_judge.specs.Begun.{BeginsOrder, BeginsWhole, StopsBefore}
 use Rattle.merge_judge.specs.inner.Lanes.{IsMerged, NoFalls}
 use Rattle.verdict.proofs.Told.{each_tells, told}
 use Rattle.std.specs.Io.KnownBytes.{Appends}
@@ -38,7 +38,8 @@ use Rattle.merge_judge.specs.inner.Writing.{IsWritten}
 use Rattle.merge_judge.proofs.MergeSoFar.{front_of, joined, lacks_end, lacks_more, lines_where}
 use Rattle.merge_judge.proofs.Quiet.{quiet_clean, quiet_write}
 use Rattle.merge_judge.proofs.Shown.{IsShown, ids, order_where}
-use Rattle.merge_judge.proofs.Stopped.{before_fault, begins_order, begun_texts, none_begins}
+use Rattle.merge_judge.proofs.Stopped.{before_fault, begins_order, none_begins}
+use Rattle.merge_judge.proofs.Texts.{begun_texts}
 use Rattle.merge_judge.proofs.WritingFacts.{appends_none}
 
 -- what ends in place of a verdict has no word of the texts but how they begin
@@ -76,10 +77,6 @@ no_memory remaining failed old before after =
     ends_early remaining failed old old before after [] (appends_none old) (lacks_end [] [] [] refl) texts (each_tells remaining before) NoMemory
     (inl (none_begins remaining before OutOfMemory)) tt
 
-no_end_before : (f : WriteFault) (texts : List (List ℕ)) (logs : List (List Record)) → EndBefore texts (Err (from_write f)) logs
-no_end_before NoMemory texts logs = tt
-no_end_before WriteFailed texts logs = tt
-
 -- a write that fails at a record
 pub look_fails : {S : Type 0} (remaining : S → Option (List ℕ)) (failed : S → ℕ) (old mid new : Option (List ℕ)) (before after : List S) (lanes : List LaneParts) (numbers : List ℕ) (clean : Bool) (merged : List (List Record)) (done : List Entry) (written kept kept_new : List ℕ) (order : List OpId) (on : Bool) (id : OpId) (f : WriteFault)
     → IsMerged remaining failed before after lanes numbers clean merged done → clean ≡ true → IsShown (order_where on order id) merged done lanes
@@ -88,7 +85,7 @@ look_fails remaining failed old mid new before after lanes numbers clean merged 
     let all : (written ++ w.0) ++ w.1.0 ≡ id_lines (order_where on order id) = joined written kept w.0 w.1.0 (line_where on id) (id_lines order) lines w.1.2 ∙ sym (lines_where on order id) in
     let t = begun_texts remaining failed before after lanes numbers clean merged done m in
     ends_early remaining failed old new before after (written ++ w.0) (appends_more old mid new written w.0 appends w.1.1) (lacks_end (written ++ w.0) w.1.0 (order_where on order id) all) t.0 t.1.0 f
-    (inl (begins_order t.0 (Err (from_write f)) (order_where on order id) merged done lanes (written ++ w.0) w.1.0 shown t.1.1 all (no_end_before f t.0 shown.logs)))
+    (inl (begins_order t.0 (Err (from_write f)) (order_where on order id) merged done lanes (written ++ w.0) w.1.0 shown t.1.1 all tt))
     (quiet_write failed before after f (quiet_clean remaining failed before after lanes numbers clean merged done m steady))
 
 -- a set without a verdict, and one with a No

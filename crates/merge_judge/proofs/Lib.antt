@@ -13,6 +13,7 @@ pub mod FinalVerdict
 pub mod Shown
 pub mod MergeSoFar
 pub mod Quiet
+pub mod Texts
 pub mod Stopped
 pub mod Judged
 pub mod Slices

@@ -74,7 +74,18 @@ module _ (numbers winners : List ℕ) (played : ArePlayed numbers winners 1) whe
 -- the place so many matches on from a place
 abbrev pub up : ℕ → ℕ → ℕ
 up zero place = place
-up (suc k) place = up k place / 2
+up (suc k) place = up k (place / 2)
+
+abbrev pub IsAbove : ℕ → ℕ → Type 0
+IsAbove at p = (k : ℕ) × (up (suc k) at ≡ p)
+
+up_more : (k place : ℕ) → up (suc k) place ≡ up k place / 2
+up_more zero place = refl
+up_more (suc k) place = up_more k (place / 2)
+
+up_zero : (k : ℕ) → up k 0 ≡ 0
+up_zero zero = refl
+up_zero (suc k) = up_zero k
 
 -- who comes to a place started behind it
 path : (numbers winners : List ℕ) → ArePlayed numbers winners 1 → (fuel j : ℕ) → 2 * length numbers ≤ fuel + j → 1 ≤ j → j < 2 * length numbers
@@ -90,7 +101,7 @@ path numbers winners played (suc fuel) j f l w = elim (cases_lt j (length number
         → (k : ℕ) × (up k (length numbers + comer winners (length numbers) child) ≡ child) → (k : ℕ) × (up k (length numbers + comer winners (length numbers) j) ≡ j)
     from inside child is half t = (
       suc t.0,
-      ap (λ c. up t.0 (length numbers + c) / 2) (comer_match winners (length numbers) j inside ∙ played.won j l inside ∙ is)
+      up_more t.0 (length numbers + comer winners (length numbers) j) ∙ ap (λ c. up t.0 (length numbers + c) / 2) (comer_match winners (length numbers) j inside ∙ played.won j l inside ∙ is)
           ∙ ap (λ c. c / 2) t.1 ∙ half,
     )
 
@@ -102,20 +113,16 @@ path numbers winners played (suc fuel) j f l w = elim (cases_lt j (length number
     go inside a b (inl q) = from inside (2 * j) q.0 (omega arith) a
     go inside a b (inr q) = from inside (2 * j + 1) q.0 (omega arith) b
 
--- The matches of a changed number were played again up to a place on its way; a match is right, or stands further on that way.
-pub record PlayedTo (numbers winners : List ℕ) (place at : ℕ) : Type 0 where
-  pub steps : ℕ
-  pub here : at ≡ up steps (length numbers + place)
+-- The matches of a changed number were played again up to a place on its way; a match is right, or stands above that place.
+pub record PlayedTo (numbers winners : List ℕ) (at : ℕ) : Type 0 where
   pub many : length winners ≡ length numbers
   pub within : (p : ℕ) → 1 ≤ p → p < length numbers → slice_index winners p < length numbers
   pub below : at < 2 * length numbers
   pub above : 1 ≤ at
-  pub won : (p : ℕ) → 1 ≤ p → p < length numbers → (slice_index winners p ≡ match_at numbers winners p) ⊎ ((m : ℕ) × (steps < m) × (p ≡ up m (length numbers + place)))
+  pub won : (p : ℕ) → 1 ≤ p → p < length numbers → (slice_index winners p ≡ match_at numbers winners p) ⊎ IsAbove at p
 
-pub played_to_start : (numbers winners : List ℕ) (place : ℕ) → place < length numbers → ArePlayedBut place numbers winners → PlayedTo numbers winners place (length numbers + place)
+pub played_to_start : (numbers winners : List ℕ) (place : ℕ) → place < length numbers → ArePlayedBut place numbers winners → PlayedTo numbers winners (length numbers + place)
 played_to_start numbers winners place inside but = record {
-  steps = 0;
-  here = refl;
   many = but.played.many ∙ but.many;
   within = λ p l w. subst (λ n. slice_index winners p < n) but.many (but.played.within p l (let m = but.many in omega arith));
   below = omega arith;
@@ -123,19 +130,16 @@ played_to_start numbers winners place inside but = record {
   won = won;
 }
   where
-    n : ℕ
-    n = length numbers
-
     same : (j : ℕ) → comer winners (length but.before) j ≡ comer winners (length numbers) j
     same j = ap (λ m. comer winners m j) but.many
 
-    way : (p child : ℕ) → child / 2 ≡ p → 1 ≤ child → child < 2 * length numbers → comer winners (length numbers) child ≡ place
-        → (m : ℕ) × (0 < m) × (p ≡ up m (length numbers + place))
+    way : (p child : ℕ) → child / 2 ≡ p → 1 ≤ child → child < 2 * length numbers → comer winners (length numbers) child ≡ place → IsAbove (length numbers + place) p
     way p child half l w is =
         let t = path but.before winners but.played (2 * length but.before) child (omega arith) l (let m = but.many in omega arith) in
-        (suc t.0, omega arith, sym half ∙ sym (ap (λ c. c / 2) t.1) ∙ ap (λ c. up t.0 c / 2) (ap (λ m. m + comer winners (length but.before) child) but.many ∙ ap (λ c. length numbers + c) (same child ∙ is)))
+        let from : length but.before + comer winners (length but.before) child ≡ length numbers + place = ap (λ m. m + comer winners (length but.before) child) but.many ∙ ap (λ c. length numbers + c) (same child ∙ is) in
+        (t.0, up_more t.0 (length numbers + place) ∙ ap (λ c. up t.0 c / 2) (sym from) ∙ ap (λ c. c / 2) t.1 ∙ half)
 
-    won : (p : ℕ) → 1 ≤ p → p < length numbers → (slice_index winners p ≡ match_at numbers winners p) ⊎ ((m : ℕ) × (0 < m) × (p ≡ up m (length numbers + place)))
+    won : (p : ℕ) → 1 ≤ p → p < length numbers → (slice_index winners p ≡ match_at numbers winners p) ⊎ IsAbove (length numbers + place) p
     won p l w = elim (cases_eq (comer winners (length numbers) (2 * p)) place) [
       | inl a ↦ inr (way p (2 * p) (omega arith) (omega arith) (omega arith) a)
       | inr a ↦ elim (cases_eq (comer winners (length numbers) (2 * p + 1)) place) [
@@ -153,11 +157,9 @@ match_here numbers winners at w l = (λ i. winner numbers (comer_other winners (
 match_other : (numbers winners : List ℕ) (p at w : ℕ) → (2 * p ≡ at → ⊥) → (2 * p + 1 ≡ at → ⊥) → match_at numbers (slice_set winners at w) p ≡ match_at numbers winners p
 match_other numbers winners p at w a b = (λ i. winner numbers (comer_other winners (length numbers) (2 * p) at w a i) (comer_other winners (length numbers) (2 * p + 1) at w b i))
 
-pub played_to_more : (numbers winners : List ℕ) (place at w : ℕ) → PlayedTo numbers winners place at → 1 < at → w ≡ match_at numbers winners (at / 2) → w < length numbers
-    → PlayedTo numbers (slice_set winners (at / 2) w) place (at / 2)
-played_to_more numbers winners place at w h more is low = record {
-  steps = suc h.steps;
-  here = ap (λ j. j / 2) h.here;
+pub played_to_more : (numbers winners : List ℕ) (at w : ℕ) → PlayedTo numbers winners at → 1 < at → w ≡ match_at numbers winners (at / 2) → w < length numbers
+    → PlayedTo numbers (slice_set winners (at / 2) w) (at / 2)
+played_to_more numbers winners at w h more is low = record {
   many = length-set winners (at / 2) w ∙ h.many;
   within = λ p l x. elim (cases_eq p (at / 2)) [
     | inl e ↦ (let v : slice_index (slice_set winners (at / 2) w) p ≡ w = ap (slice_index (slice_set winners (at / 2) w)) e ∙ get_or-set_same winners (at / 2) w 0 inside in omega (arith, v, low))
@@ -171,49 +173,35 @@ played_to_more numbers winners place at w h more is low = record {
     inside : at / 2 < length winners
     inside = let b = h.below in let m = h.many in omega arith
 
-    won : (p : ℕ) → 1 ≤ p → p < length numbers → (slice_index winners p ≡ match_at numbers winners p) ⊎ ((m : ℕ) × (h.steps < m) × (p ≡ up m (length numbers + place)))
-        → (slice_index (slice_set winners (at / 2) w) p ≡ match_at numbers (slice_set winners (at / 2) w) p) ⊎ ((m : ℕ) × (suc h.steps < m) × (p ≡ up m (length numbers + place)))
+    won : (p : ℕ) → 1 ≤ p → p < length numbers → (slice_index winners p ≡ match_at numbers winners p) ⊎ IsAbove at p → (slice_index (slice_set winners (at / 2) w) p ≡ match_at numbers (slice_set winners (at / 2) w) p) ⊎ IsAbove (at / 2) p
     won p l x old = elim (cases_eq p (at / 2)) [
       | inl e ↦ inl (ap (slice_index (slice_set winners (at / 2) w)) e ∙ get_or-set_same winners (at / 2) w 0 inside ∙ is
           ∙ sym (match_here numbers winners (at / 2) w (omega arith)) ∙ ap (match_at numbers (slice_set winners (at / 2) w)) (sym e))
       | inr e ↦ go e old
     ]
       where
-        on : (child : ℕ) → child ≡ at / 2 → child / 2 ≡ p → (m : ℕ) × (suc h.steps < m) × (p ≡ up m (length numbers + place))
-        on child c half = (suc (suc h.steps), omega arith, sym half ∙ ap (λ j. j / 2) (c ∙ ap (λ j. j / 2) h.here))
-
-        go : (p ≡ at / 2 → ⊥) → (slice_index winners p ≡ match_at numbers winners p) ⊎ ((m : ℕ) × (h.steps < m) × (p ≡ up m (length numbers + place)))
-            → (slice_index (slice_set winners (at / 2) w) p ≡ match_at numbers (slice_set winners (at / 2) w) p) ⊎ ((m : ℕ) × (suc h.steps < m) × (p ≡ up m (length numbers + place)))
+        go : (p ≡ at / 2 → ⊥) → (slice_index winners p ≡ match_at numbers winners p) ⊎ IsAbove at p → (slice_index (slice_set winners (at / 2) w) p ≡ match_at numbers (slice_set winners (at / 2) w) p) ⊎ IsAbove (at / 2) p
         go e (inl right) = elim (cases_eq (2 * p) (at / 2)) [
-          | inl a ↦ inr (on (2 * p) a (omega arith))
+          | inl a ↦ inr (0, (let half : at / 2 / 2 ≡ p = omega arith in half))
           | inr a ↦ elim (cases_eq (2 * p + 1) (at / 2)) [
-            | inl b ↦ inr (on (2 * p + 1) b (omega arith))
+            | inl b ↦ inr (0, (let half : at / 2 / 2 ≡ p = omega arith in half))
             | inr b ↦ inl (get_or-set_other winners (at / 2) p w 0 e ∙ right ∙ sym (match_other numbers winners p (at / 2) w a b))
           ]
         ]
-        go e (inr t) = elim (cases_eq t.0 (suc h.steps)) [
-          | inl q ↦ absurd (e (t.2 ∙ ap (λ m. up m (length numbers + place)) q ∙ ap (λ j. j / 2) (sym h.here)))
-          | inr q ↦ inr (t.0, (let s = t.1 in omega arith), t.2)
-        ]
-
-up_none : (k m place : ℕ) → up k place ≤ 1 → k < m → up m place ≡ 0
-up_none k zero place one l = absurd (omega arith)
-up_none k (suc m) place one l = elim (cases_eq k m) [
-  | inl e ↦ (let a = ap (λ j. up j place) e in omega (arith, a, one))
-  | inr e ↦ (let a = up_none k m place one (omega arith) in omega (arith, a))
-]
+        go e (inr (zero, there)) = absurd (e (sym there))
+        go e (inr (suc k, there)) = inr (k, there)
 
 -- at the first match all are right
-pub played_again : (numbers winners : List ℕ) (place at : ℕ) → PlayedTo numbers winners place at → at ≤ 1 → ArePlayed numbers winners 1
-played_again numbers winners place at h one = record {
+pub played_again : (numbers winners : List ℕ) (at : ℕ) → PlayedTo numbers winners at → at ≤ 1 → ArePlayed numbers winners 1
+played_again numbers winners at h one = record {
   many = h.many;
   within = h.within;
   won = λ p l w. go p l (h.won p l w);
 }
   where
-    go : (p : ℕ) → 1 ≤ p → (slice_index winners p ≡ match_at numbers winners p) ⊎ ((m : ℕ) × (h.steps < m) × (p ≡ up m (length numbers + place))) → slice_index winners p ≡ match_at numbers winners p
+    go : (p : ℕ) → 1 ≤ p → (slice_index winners p ≡ match_at numbers winners p) ⊎ IsAbove at p → slice_index winners p ≡ match_at numbers winners p
     go p l (inl right) = right
-    go p l (inr t) = absurd (let a = up_none h.steps t.0 (length numbers + place) (let b = h.here in omega arith) t.1 in let c = t.2 in omega (arith, a, c))
+    go p l (inr (k, there)) = absurd (let none : at / 2 ≡ 0 = omega arith in let z = ap (up k) none ∙ up_zero k in omega (arith, z, there))
 
 -- ---- all matches
 

@@ -16,14 +16,14 @@ use Rattle.log_record.specs.declared.record.Record.{Record}
 use Rattle.log_record.specs.declared.record.Entry.{Entry}
 use Rattle.log_record.specs.Entries.{entry_cmp, entries}
 use Rattle.address_check.proofs.Totals.{entry_total}
-use Rattle.core_check.specs.CoreOrder.{is_core_fault}
+use Rattle.core_check.specs.CoreOrder.{falls, is_core_fault}
 use Rattle.verdict.specs.ByKey.{by_key}
 use Rattle.verdict.proofs.Lists.{set_here, set_elsewhere}
 use Rattle.verdict.proofs.ProgramOrder.{less_index}
 use Rattle.verdict.proofs.SerialOrder.{tied_id}
 use Rattle.merge_judge.specs.LaneParts.{LaneParts}
 use Rattle.merge_judge.specs.inner.Matches.{IsLeastAt}
-use Rattle.merge_judge.specs.inner.Lanes.{AllEnded, ComeBefore, IsFaulty, IsFrontNumber, IsLaneAt, IsMerged, IsStage, IsTaken, NoFalls, NoFaults, SomeFaulty, add, entry_at, falls_after, front_list, log_at}
+use Rattle.merge_judge.specs.inner.Lanes.{AllEnded, ComeBefore, IsFaulty, IsFrontNumber, IsLaneAt, IsMerged, IsStage, IsTaken, NoFalls, NoFaults, SomeFaulty, add, entry_at, front_list, log_at}
 use Rattle.merge_judge.proofs.Added.{add_here, add_long, add_other, by_key_more, entries_more}
 use Rattle.merge_judge.proofs.Falls.{fall_here_is}
 use Rattle.merge_judge.proofs.LaneFacts.{few_answered}
@@ -78,15 +78,15 @@ number_before a b c k i j ra rb lc lk le other = elim (lt_cases entry_cmp entry_
 ]
 
 -- a record that doesn't fall comes after the one before it
-next_after : (a b : Record) (core i j : ℕ) → i < j → falls_after a b ≡ false → is_lt (entry_cmp (entry_at core i a) (entry_at core j b)) ≡ true
+next_after : (a b : Record) (core i j : ℕ) → i < j → falls (Some a) (Some b) ≡ false → is_lt (entry_cmp (entry_at core i a) (entry_at core j b)) ≡ true
 next_after a b core i j later not_falling = elim (lt_cases entry_cmp entry_total (entry_at core i a) (entry_at core j b)) [
   | inl l ↦ l
   | inr t ↦ elim t [
     | inl tied ↦ absurd (let e = ap (λ id. id.index) (tied_id (entry_at core i a) (entry_at core j b) tied) in omega (arith, e, later))
     | inr l ↦ absurd (elim (less_parts (nat_cmp b.ts a.ts) _ l) [
-      | inl p ↦ (let f : falls_after a b ≡ true = less_first (nat_cmp b.ts a.ts) (nat_cmp b.rank a.rank) p in cc)
+      | inl p ↦ (let f : falls (Some a) (Some b) ≡ true = less_first (nat_cmp b.ts a.ts) (nat_cmp b.rank a.rank) p in cc)
       | inr u ↦ elim (less_parts (nat_cmp b.rank a.rank) _ u.1) [
-        | inl p ↦ (let f : falls_after a b ≡ true = less_second (nat_cmp b.ts a.ts) (nat_cmp b.rank a.rank) u.0 p in cc)
+        | inl p ↦ (let f : falls (Some a) (Some b) ≡ true = less_second (nat_cmp b.ts a.ts) (nat_cmp b.rank a.rank) u.0 p in cc)
         | inr v ↦ elim (less_parts (nat_cmp core core) _ v.1) [
           | inl p ↦ (let q : core < core = less_index _ _ p in omega (arith, q))
           | inr w ↦ (let q : j < i = less_index _ _ w.1 in omega (arith, q, later))
@@ -97,11 +97,6 @@ next_after a b core i j later not_falling = elim (lt_cases entry_cmp entry_total
 ]
 
 -- ---- lists
-
-pub set_same : {X : Type 0} (xs : List X) (n : ℕ) (x : X) → slice_get xs n ≡ Some x → slice_set xs n x ≡ xs
-set_same [] n x h = absurd cc
-set_same (y ∷ ys) zero x h = let e : y ≡ x = cc in ap (λ z. z ∷ ys) (sym e)
-set_same (y ∷ ys) (suc n) x h = ap (λ zs. y ∷ zs) (set_same ys n x h)
 
 pub there : {X : Type 0} (xs : List X) (n : ℕ) → n < length xs → (x : X) × (slice_get xs n ≡ Some x)
 there [] n l = absurd (omega arith)
@@ -162,12 +157,11 @@ module _ {S : Type 0} (remaining : S → Option (List ℕ)) (failed : S → ℕ)
     count_is = lane_now.count
 
     module _ (source source_new : S) (source_is : slice_get after core ≡ Some source) (lane_new : LaneParts) (n : ℕ) (clean_new : Bool)
-        (advanced : (c cs : ℕ) (b : S) (rs : List Record) → lane.front ≡ Some r → IsLaneAt remaining failed c cs b source lane rs → IsLaneAt remaining failed c cs b source_new lane_new (rs ++ r ∷ []))
-        (falls : lane_new.falls ≡ None → lane.falls ≡ None)
-        (faulty : IsFaulty lane → IsFaulty lane_new)
+        (advanced : (c cs : ℕ) (b : S) (rs : List Record) (f : Record) → lane.front ≡ Some f → IsLaneAt remaining failed c cs b source lane rs → IsLaneAt remaining failed c cs b source_new lane_new (rs ++ f ∷ []))
+        (known_falls : lane_new.falls ≡ None → lane.falls ≡ None)
         (number_new : IsFrontNumber core lane_new.front n)
         (found : clean_new ≡ false → (clean ≡ false) ⊎ IsFaulty lane_new)
-        (kept : clean_new ≡ true → (clean ≡ true) × (lane.falls ≡ None → lane_new.falls ≡ None) × (lane.fault ≡ None → lane_new.fault ≡ None)) where
+        (kept : clean_new ≡ true → (clean ≡ true) × (lane_new.falls ≡ None) × (lane_new.fault ≡ None)) where
       abbrev e : Entry
       e = entry_at core (length (log_at merged core)) r
 
@@ -196,11 +190,8 @@ module _ {S : Type 0} (remaining : S → Option (List ℕ)) (failed : S → ℕ)
             let b_is : slice_get before core ≡ Some b = subst (λ j. slice_get before j ≡ Some b) q hb in
             let a_is : source_new ≡ a = one (slice_get (slice_set after core source_new) core) source_new a (set_here after core source_new w) (subst (λ j. slice_get (slice_set after core source_new) j ≡ Some a) q ha) in
             let l_is : lane_new ≡ l = one (slice_get lanes_new core) lane_new l here (subst (λ j. slice_get lanes_new j ≡ Some l) q hl) in
-            let at = advanced core (length before) b (log_at merged core) front_is (m.lane core b source lane b_is source_is lane_is) in
-            subst (λ j. IsLaneAt remaining failed j (length before) b a l (log_at (add merged core r) j)) (sym q)
-            (subst (λ rs. IsLaneAt remaining failed core (length before) b a l rs) (sym logs_here)
-            (subst (λ x. IsLaneAt remaining failed core (length before) b x l (log_at merged core ++ r ∷ [])) a_is
-            (subst (λ x. IsLaneAt remaining failed core (length before) b source_new x (log_at merged core ++ r ∷ [])) l_is at))))
+            let at = advanced core (length before) b (log_at merged core) r front_is (m.lane core b source lane b_is source_is lane_is) in
+            rw (q, logs_here, sym a_is, sym l_is) at)
         | inr q ↦ subst (λ rs. IsLaneAt remaining failed k (length before) b a l rs) (sym (add_other merged core k r q))
             (m.lane k b a l hb (sym (set_elsewhere after core k source_new q) ∙ ha) (sym (elsewhere k q) ∙ hl))
       ]
@@ -208,16 +199,14 @@ module _ {S : Type 0} (remaining : S → Option (List ℕ)) (failed : S → ℕ)
       number_at : (k : ℕ) (l : LaneParts) → slice_get lanes_new k ≡ Some l → IsFrontNumber k l.front (slice_index (slice_set numbers core n) k)
       number_at k l hl = elim (cases_eq k core) [
         | inl q ↦ (let l_is : lane_new ≡ l = one (slice_get lanes_new core) lane_new l here (subst (λ j. slice_get lanes_new j ≡ Some l) q hl) in
-            subst (λ j. IsFrontNumber j l.front (slice_index (slice_set numbers core n) j)) (sym q)
-            (subst (λ x. IsFrontNumber core l.front x) (sym (get_or-set_same numbers core n 0 inside))
-            (subst (λ (x : LaneParts). IsFrontNumber core x.front n) l_is number_new)))
+            rw (q, get_or-set_same numbers core n 0 inside, sym l_is) number_new)
         | inr q ↦ subst (λ x. IsFrontNumber k l.front x) (sym (get_or-set_other numbers core k n 0 q)) (m.number k l (sym (elsewhere k q) ∙ hl))
       ]
 
       none_fell : NoFalls lanes_new → NoFalls lanes
       none_fell h k l hl = elim (cases_eq k core) [
         | inl q ↦ (let l_is : lane ≡ l = one (slice_get lanes core) lane l lane_is (subst (λ j. slice_get lanes j ≡ Some l) q hl) in
-            subst (λ (x : LaneParts). x.falls ≡ None) l_is (falls (h core lane_new here)))
+            subst (λ (x : LaneParts). x.falls ≡ None) l_is (known_falls (h core lane_new here)))
         | inr q ↦ h k l (elsewhere k q ∙ hl)
       ]
 
@@ -236,8 +225,8 @@ module _ {S : Type 0} (remaining : S → Option (List ℕ)) (failed : S → ℕ)
         | inl q ↦ (let l_is : lane_new ≡ l = one (slice_get lanes_new core) lane_new l here (subst (λ j. slice_get lanes_new j ≡ Some l) q hl) in
             let new_front : lane_new.front ≡ Some f = subst (λ (x : LaneParts). x.front ≡ Some f) (sym l_is) hf in
             let s = source_at in
-            let at = advanced core (length before) s.0 (log_at merged core) front_is (m.lane core s.0 source lane s.1 source_is lane_is) in
-            let steady : falls_after r f ≡ false = fall_here_is (log_at merged core) r f lane_new.falls (subst (λ o. IsLeastWhere (is_core_fault ((log_at merged core ++ r ∷ []) ++ front_list o)) lane_new.falls) new_front at.first_fall) (h core lane_new here) in
+            let at = advanced core (length before) s.0 (log_at merged core) r front_is (m.lane core s.0 source lane s.1 source_is lane_is) in
+            let steady : falls (Some r) (Some f) ≡ false = fall_here_is (log_at merged core) r f lane_new.falls (subst (λ o. IsLeastWhere (is_core_fault ((log_at merged core ++ r ∷ []) ++ front_list o)) lane_new.falls) new_front at.first_fall) (h core lane_new here) in
             let long : length (log_at (add merged core r) core) ≡ length (log_at merged core) + 1 = ap length logs_here ∙ length_push (log_at merged core) r in
             subst (λ j. is_lt (entry_cmp e (entry_at j (length (log_at (add merged core r) j)) f)) ≡ true) (sym q)
             (next_after r f core (length (log_at merged core)) (length (log_at (add merged core r) core)) (omega (arith, long)) steady))
@@ -263,6 +252,11 @@ module _ {S : Type 0} (remaining : S → Option (List ℕ)) (failed : S → ℕ)
         ]
       ]
 
+      -- a log with a front has no fault but a fall
+      faulty : IsFaulty lane → IsFaulty lane_new
+      faulty (inl f) = inl (λ none. f (known_falls none))
+      faulty (inr f) = absurd (f stage.0)
+
       faulty_new : clean_new ≡ false → SomeFaulty lanes_new
       faulty_new h = elim (found h) [
         | inl old ↦ (let t = m.faulty old in
@@ -276,14 +270,14 @@ module _ {S : Type 0} (remaining : S → Option (List ℕ)) (failed : S → ℕ)
       steady_new : clean_new ≡ true → NoFalls lanes_new
       steady_new h k l hl = elim (cases_eq k core) [
         | inl q ↦ (let l_is : lane_new ≡ l = one (slice_get lanes_new core) lane_new l here (subst (λ j. slice_get lanes_new j ≡ Some l) q hl) in
-            subst (λ (x : LaneParts). x.falls ≡ None) l_is ((kept h).1 (m.steady (kept h).0 core lane lane_is)))
+            subst (λ (x : LaneParts). x.falls ≡ None) l_is (kept h).1)
         | inr q ↦ m.steady (kept h).0 k l (sym (elsewhere k q) ∙ hl)
       ]
 
       whole_new : clean_new ≡ true → NoFaults lanes_new
       whole_new h k l hl = elim (cases_eq k core) [
         | inl q ↦ (let l_is : lane_new ≡ l = one (slice_get lanes_new core) lane_new l here (subst (λ j. slice_get lanes_new j ≡ Some l) q hl) in
-            subst (λ (x : LaneParts). x.fault ≡ None) l_is ((kept h).2 (m.whole (kept h).0 core lane lane_is)))
+            subst (λ (x : LaneParts). x.fault ≡ None) l_is (kept h).2)
         | inr q ↦ m.whole (kept h).0 k l (sym (elsewhere k q) ∙ hl)
       ]
 

@@ -1,13 +1,15 @@
 -- The first records of the logs of a set, log by log.
-use Rattle.std.specs.Prelude.{◌≡◌, ℕ, zero, suc, ◌+◌, ◌<◌, ◌≤◌, ◌⊎◌, Bool, true, false, List, [], ◌∷◌, ◌++◌, refl, Option, Some, None, is_some, not, length, replicate, slice_get, slice_set, slice_index}
+use Rattle.std.specs.Prelude.{◌≡◌, ℕ, zero, suc, ◌+◌, ◌<◌, ◌≤◌, ◌⊎◌, Bool, true, false, List, [], ◌∷◌, ◌++◌, refl, Option, Some, None, length, replicate, slice_get, slice_set, slice_index}
 use Rattle.std.proofs.Common.{sym, ◌∙◌, ap, subst, inl, inr, arith, length-set}
 use Rattle.std.proofs.lemmas.Bool.{cases_lt}
-use Rattle.std.proofs.lemmas.List.{length_push}
+use Rattle.std.proofs.lemmas.List.{get_or_append_left, get_or_push, length-replicate, length_push}
 use Rattle.std.proofs.lemmas.Option.{slice_get_within}
 use Rattle.log_record.specs.Entries.{entry_cmp, entries_from}
 use Rattle.line_stamps.specs.Ordered.{sorted}
 use Rattle.verdict.proofs.Lists.{set_here, set_elsewhere}
 use Rattle.merge_judge.specs.LaneParts.{LaneParts}
+use Rattle.merge_judge.proofs.Falls.{get_last, get_left}
+use Rattle.merge_judge.proofs.Merged.{one}
 use Rattle.merge_judge.specs.inner.Lanes.{IsFaulty, IsFrontNumber, IsLaneAt, IsMerged, NoFalls, NoFaults, SomeFaulty, log_at}
 
 -- the first record of each of the first n logs was read
@@ -18,7 +20,7 @@ pub record Opened {S : Type 0} (remaining : S → Option (List ℕ)) (failed : S
   pub lane : (k : ℕ) (b a : S) (l : LaneParts) → slice_get before k ≡ Some b → slice_get after k ≡ Some a → slice_get lanes k ≡ Some l → IsLaneAt remaining failed k (length before) b a l []
   pub number : (k : ℕ) (l : LaneParts) → slice_get lanes k ≡ Some l → IsFrontNumber k l.front (slice_index numbers k)
   pub faulty : clean ≡ false → SomeFaulty lanes
-  pub steady : NoFalls lanes
+  pub steady : clean ≡ true → NoFalls lanes
   pub whole : clean ≡ true → NoFaults lanes
   pub rest : (k : ℕ) → n ≤ k → slice_get after k ≡ slice_get before k
 
@@ -30,39 +32,19 @@ opened_none remaining failed readers = record {
   lane = λ k b a l hb ha hl. absurd (let w = slice_get_within [] k l hl in omega (arith, w));
   number = λ k l hl. absurd (let w = slice_get_within [] k l hl in omega (arith, w));
   faulty = λ h. absurd cc;
-  steady = λ k l hl. absurd (let w = slice_get_within [] k l hl in omega (arith, w));
+  steady = λ h k l hl. absurd (let w = slice_get_within [] k l hl in omega (arith, w));
   whole = λ h k l hl. absurd (let w = slice_get_within [] k l hl in omega (arith, w));
   rest = λ k l. refl;
 }
 
-get_left : {X : Type 0} (xs ys : List X) (k : ℕ) → k < length xs → slice_get (xs ++ ys) k ≡ slice_get xs k
-get_left [] ys k l = absurd (omega arith)
-get_left (x ∷ xs) ys zero l = refl
-get_left (x ∷ xs) ys (suc k) l = get_left xs ys k (omega arith)
-
-get_last : {X : Type 0} (xs : List X) (x : X) (n : ℕ) → length xs ≡ n → slice_get (xs ++ x ∷ []) n ≡ Some x
-get_last [] x n h = ap (slice_get (x ∷ [])) (let e : n ≡ 0 = omega (arith, h) in e)
-get_last (y ∷ ys) x zero h = absurd (omega (arith, h))
-get_last (y ∷ ys) x (suc n) h = get_last ys x n (omega (arith, h))
-
-index_left : (xs ys : List ℕ) (k : ℕ) → k < length xs → slice_index (xs ++ ys) k ≡ slice_index xs k
-index_left [] ys k l = absurd (omega arith)
-index_left (x ∷ xs) ys zero l = refl
-index_left (x ∷ xs) ys (suc k) l = index_left xs ys k (omega arith)
-
-index_last : (xs : List ℕ) (x n : ℕ) → length xs ≡ n → slice_index (xs ++ x ∷ []) n ≡ x
-index_last [] x n h = ap (slice_index (x ∷ [])) (let e : n ≡ 0 = omega (arith, h) in e)
-index_last (y ∷ ys) x zero h = absurd (omega (arith, h))
-index_last (y ∷ ys) x (suc n) h = index_last ys x n (omega (arith, h))
-
-one : {X : Type 0} (o : Option X) (a b : X) → o ≡ Some a → o ≡ Some b → a ≡ b
-one o a b p q = cc
-
 -- one more
 module _ {S : Type 0} (remaining : S → Option (List ℕ)) (failed : S → ℕ) (before after : List S) (n : ℕ) (lanes : List LaneParts) (numbers : List ℕ) (clean : Bool) (h : Opened remaining failed before after n lanes numbers clean)
     (source source_new : S) (source_is : slice_get after n ≡ Some source) (lane : LaneParts) (number : ℕ) (clean_new : Bool)
-    (at : IsLaneAt remaining failed n (length before) source source_new lane []) (number_is : IsFrontNumber n lane.front number) (found : clean_new ≡ false → (clean ≡ false) ⊎ IsFaulty lane) (steady : lane.falls ≡ None)
-    (kept : clean_new ≡ true → (clean ≡ true) × (lane.fault ≡ None)) where
+    (at : IsLaneAt remaining failed n (length before) source source_new lane []) (number_is : IsFrontNumber n lane.front number) (found : clean_new ≡ false → (clean ≡ false) ⊎ IsFaulty lane)
+    (kept : clean_new ≡ true → (clean ≡ true) × (lane.falls ≡ None) × (lane.fault ≡ None)) where
+  last : slice_get (lanes ++ lane ∷ []) n ≡ Some lane
+  last = subst (λ j. slice_get (lanes ++ lane ∷ []) j ≡ Some lane) h.many (get_last lanes lane)
+
   before_is : slice_get before n ≡ Some source
   before_is = sym (h.rest n (omega arith)) ∙ source_is
 
@@ -70,7 +52,7 @@ module _ {S : Type 0} (remaining : S → Option (List ℕ)) (failed : S → ℕ)
   split k l hl = elim (cases_lt k n) [
     | inl low ↦ inl (low, sym (get_left lanes (lane ∷ []) k (omega (arith, low, h.many))) ∙ hl)
     | inr high ↦ (let w = slice_get_within (lanes ++ lane ∷ []) k l hl in let e : k ≡ n = omega (arith, high, w, length_push lanes lane, h.many) in
-        inr (e, one (slice_get (lanes ++ lane ∷ []) n) lane l (get_last lanes lane n h.many) (subst (λ j. slice_get (lanes ++ lane ∷ []) j ≡ Some l) e hl)))
+        inr (e, one (slice_get (lanes ++ lane ∷ []) n) lane l last (subst (λ j. slice_get (lanes ++ lane ∷ []) j ≡ Some l) e hl)))
   ]
 
   pub opened_more : Opened remaining failed before (slice_set after n source_new) (n + 1) (lanes ++ lane ∷ []) (numbers ++ number ∷ []) clean_new
@@ -83,23 +65,18 @@ module _ {S : Type 0} (remaining : S → Option (List ℕ)) (failed : S → ℕ)
       | inr p ↦ (let w = slice_get_within after n source source_is in
           let b_is : source ≡ b = one (slice_get before n) source b before_is (subst (λ j. slice_get before j ≡ Some b) p.0 hb) in
           let a_is : source_new ≡ a = one (slice_get (slice_set after n source_new) n) source_new a (set_here after n source_new w) (subst (λ j. slice_get (slice_set after n source_new) j ≡ Some a) p.0 ha) in
-          subst (λ j. IsLaneAt remaining failed j (length before) b a l []) (sym p.0)
-          (subst (λ x. IsLaneAt remaining failed n (length before) x a l []) b_is
-          (subst (λ x. IsLaneAt remaining failed n (length before) source x l []) a_is
-          (subst (λ x. IsLaneAt remaining failed n (length before) source source_new x []) p.1 at))))
+          rw (p.0, sym b_is, sym a_is, sym p.1) at)
     ];
     number = λ k l hl. elim (split k l hl) [
-      | inl p ↦ subst (λ x. IsFrontNumber k l.front x) (sym (index_left numbers (number ∷ []) k (let m = p.0 in omega (arith, m, h.fronts)))) (h.number k l p.1)
-      | inr p ↦ subst (λ j. IsFrontNumber j l.front (slice_index (numbers ++ number ∷ []) j)) (sym p.0)
-          (subst (λ x. IsFrontNumber n l.front x) (sym (index_last numbers number n h.fronts))
-          (subst (λ (x : LaneParts). IsFrontNumber n x.front number) p.1 number_is))
+      | inl p ↦ subst (λ x. IsFrontNumber k l.front x) (sym (get_or_append_left numbers (number ∷ []) 0 k (let m = p.0 in omega (arith, m, h.fronts)))) (h.number k l p.1)
+      | inr p ↦ rw (p.0, get_or_push numbers number 0 n h.fronts, sym p.1) number_is
     ];
     faulty = λ e. elim (found e) [
       | inl old ↦ (let t = h.faulty old in (t.0, (t.1.0, get_left lanes (lane ∷ []) t.0 (slice_get_within lanes t.0 t.1.0 t.1.1) ∙ t.1.1, t.1.2)))
-      | inr now ↦ (n, (lane, get_last lanes lane n h.many, now))
+      | inr now ↦ (n, (lane, last, now))
     ];
-    steady = λ k l hl. elim (split k l hl) [ inl p ↦ h.steady k l p.1 | inr p ↦ subst (λ (x : LaneParts). x.falls ≡ None) p.1 steady ];
-    whole = λ e k l hl. elim (split k l hl) [ inl p ↦ h.whole (kept e).0 k l p.1 | inr p ↦ subst (λ (x : LaneParts). x.fault ≡ None) p.1 (kept e).1 ];
+    steady = λ e k l hl. elim (split k l hl) [ inl p ↦ h.steady (kept e).0 k l p.1 | inr p ↦ subst (λ (x : LaneParts). x.falls ≡ None) p.1 (kept e).1 ];
+    whole = λ e k l hl. elim (split k l hl) [ inl p ↦ h.whole (kept e).0 k l p.1 | inr p ↦ subst (λ (x : LaneParts). x.fault ≡ None) p.1 (kept e).2 ];
     rest = λ k l. set_elsewhere after n k source_new (λ e. omega (arith, l, e)) ∙ h.rest k (omega (arith, l));
   }
 
@@ -113,16 +90,12 @@ none_there zero k = refl
 none_there (suc n) zero = refl
 none_there (suc n) (suc k) = none_there n k
 
-pub replicate_long : {X : Type 0} (n : ℕ) (x : X) → length (replicate n x) ≡ n
-replicate_long zero x = refl
-replicate_long (suc n) x = ap suc (replicate_long n x)
-
 pub all_opened : {S : Type 0} (remaining : S → Option (List ℕ)) (failed : S → ℕ) (before after : List S) (n : ℕ) (lanes : List LaneParts) (numbers : List ℕ) (clean : Bool) → Opened remaining failed before after n lanes numbers clean
     → n ≡ length before → 0 < length before → length before ≤ 64 → IsMerged remaining failed before after lanes numbers clean (replicate (length before) []) []
 all_opened remaining failed before after n lanes numbers clean h all some few = record {
   readers = h.readers;
   many = h.many ∙ all;
-  logs = replicate_long (length before) [];
+  logs = length-replicate (length before) [];
   fronts = h.fronts ∙ all;
   some = some;
   few = few;
@@ -132,16 +105,6 @@ all_opened remaining failed before after n lanes numbers clean h all some few = 
   by_key_so_far = λ steady. sym (ap (sorted entry_cmp) (no_entries 0 (length before)));
   come_before = λ steady x p. absurd p;
   faulty = h.faulty;
-  steady = λ clean. h.steady;
+  steady = h.steady;
   whole = h.whole;
 }
-
-pub is_faulty : (lane : LaneParts) (b : Bool) → is_some lane.fault ≡ not b → b ≡ false → IsFaulty lane
-is_faulty lane b e h = inr (λ none. let t : false ≡ not b = sym (ap is_some none) ∙ e in let u : false ≡ true = t ∙ ap not h in cc)
-
-is_nothing : {X : Type 0} (o : Option X) → is_some o ≡ false → o ≡ None
-is_nothing None h = refl
-is_nothing (Some x) h = absurd cc
-
-pub is_whole : (lane : LaneParts) (b : Bool) → is_some lane.fault ≡ not b → b ≡ true → lane.fault ≡ None
-is_whole lane b e h = is_nothing lane.fault (e ∙ ap not h)

@@ -4,18 +4,16 @@ use Rattle.std.specs.Option.{option_map, option_map_or}
 use Rattle.std.proofs.Common.{inl, inr, sym, ◌∙◌, ap, subst, arith, append_assoc, append-nil}
 use Rattle.std.specs.Ordering.{is_lt}
 use Rattle.std.proofs.lemmas.Bool.{cases_eq}
-use Rattle.std.proofs.lemmas.Option.{slice_get_within}
+use Rattle.std.proofs.lemmas.Option.{get_or_from_slice_get, slice_get_within}
 use Rattle.line_stamps.specs.Ordered.{In, sorted}
-use Rattle.line_stamps.proofs.Ordered.{In-from_sorted, least_is, one_least}
+use Rattle.line_stamps.proofs.Ordered.{In-from_sorted}
 use Rattle.log_record.specs.declared.record.Record.{Record}
 use Rattle.log_record.specs.declared.record.Entry.{Entry}
 use Rattle.log_record.specs.Entries.{entries, entry_cmp}
 use Rattle.mem_op.specs.declared.id.OpId.{OpId}
 use Rattle.core_program.specs.Least.{IsLeastWhere}
 use Rattle.core_check.specs.CoreOrder.{is_core_fault}
-use Rattle.core_check.specs.CoreFaults.{least_core_fault, order_faults}
-use Rattle.core_check.specs.FaultOrder.{core_fault_cmp}
-use Rattle.core_check.proofs.FaultFacts.{core_fault_total, tied_core_faults}
+use Rattle.core_check.specs.CoreFaults.{least_core_fault}
 use Rattle.core_check.proofs.OrderFaultFacts.{fault_in_log}
 use Rattle.address_check.specs.declared.fault.AddressFault.{AddressFault}
 use Rattle.address_check.specs.AddressFaults.{least_address_fault}
@@ -29,9 +27,9 @@ use Rattle.merge_judge.specs.inner.Memory.{first_along}
 use Rattle.merge_judge.proofs.Added.{add_here, add_long, add_other}
 use Rattle.merge_judge.proofs.Along.{along_is_least}
 use Rattle.merge_judge.proofs.Falls.{fall_past, never_front}
+use Rattle.merge_judge.proofs.FinalVerdict.{least_core}
 use Rattle.merge_judge.proofs.Opening.{no_entries}
-use Rattle.merge_judge.proofs.FinalVerdict.{log_there}
-use Rattle.merge_judge.proofs.Merged.{one, there}
+use Rattle.merge_judge.proofs.Merged.{there}
 
 abbrev pub ids : List Entry → List OpId
 ids done = map (λ e. e.id) done
@@ -47,11 +45,7 @@ Rises logs = (k : ℕ) (log : List Record) → slice_get logs k ≡ Some log →
 
 -- where none does, and no record has a fault by its address, the verdict is Yes
 none_of_order : (logs : List (List Record)) → Rises logs → None ≡ least_core_fault logs
-none_of_order logs rises =
-    one_least core_fault_cmp core_fault_total (order_faults logs) (order_faults logs) None (least_core_fault logs)
-    (λ a b p q tied. tied_core_faults a b tied) (λ f p. p) (λ f p. p)
-    (λ f p. (let t = fault_in_log logs f p in let a = rises f.id.core t.log t.place f.id.index in let b = t.falls_there in cc))
-    (least_is core_fault_cmp core_fault_total (order_faults logs))
+none_of_order logs rises = least_core logs None (λ f p. (let t = fault_in_log logs f p in let a = rises f.id.core t.log t.place f.id.index in let b = t.falls_there in cc))
 
 pub yes_where : (logs : List (List Record)) → Rises logs → least_address_fault (entries logs) ≡ None → verdict_of logs ≡ Yes (length (entries logs))
 yes_where logs rises right =
@@ -190,7 +184,7 @@ module _ {S : Type 0} (remaining : S → Option (List ℕ)) (failed : S → ℕ)
           let fall = (m.lane k b.0 a.0 l.0 b.1 a.1 l.1).first_fall in
           let none_falls : IsLeastWhere (is_core_fault (log_at merged k ++ front_list l.0.front)) None =
           subst (λ o. IsLeastWhere (is_core_fault (log_at merged k ++ front_list l.0.front)) o) (m.steady refl k l.0 l.1) fall in
-          let same : log_at merged k ≡ log = one (slice_get merged k) (log_at merged k) log (log_there merged k w) h in
+          let same : log_at merged k ≡ log = get_or_from_slice_get merged k log [] h in
           subst (λ rs. (i : ℕ) → is_core_fault rs i ≡ false) same (never_front (log_at merged k) (front_list l.0.front) none_falls)
 
   in_merged : (merged : List (List Record)) (done : List Entry) (e : Entry) (clean : Bool) (old : List LaneParts) → IsTaken e.id.core e.logged old lanes

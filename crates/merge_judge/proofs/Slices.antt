@@ -1,11 +1,12 @@
 -- Logs whose records are there, as texts that sources tell.
 use Rattle.std.specs.Prelude.{◌≡◌, ◌==◌, ◌<◌, ◌≤◌, ◌⊎◌, All, drop, ℕ, zero, suc, ◌+◌, true, false, List, [], ◌∷◌, ◌++◌, refl, Option, None, Some, Result, Ok, Err, IfErr, IfSome, MatchResult, get_or, length, map, slice_get}
-use Rattle.std.specs.List.{AllZip, AllByRecursion}
+use Rattle.std.specs.List.{AllZip}
 use Rattle.std.proofs.Common.{sym, ◌∙◌, ap, subst, arith, inl, inr, append_assoc, append-nil, length-append}
 use Rattle.std.specs.Io.KnownBytes.{Consumes}
 use Rattle.std.proofs.lemmas.Grind.{flat_map-append}
 use Rattle.std.proofs.lemmas.List.{drop_all, length-map}
 use Rattle.std.proofs.lemmas.List.Elements.{All-cons, All-get_or, All-head, All-nil, All-tail}
+use Rattle.std.proofs.lemmas.Slice.Zip.{AllZip-long}
 use Rattle.std.proofs.lemmas.Option.{slice_get-get_or, slice_get_within}
 use Rattle.mem_op.specs.Limits.{operation_limit}
 use Rattle.log_record.specs.declared.format.Format.TheVariants.{Two}
@@ -15,6 +16,7 @@ use Rattle.log_file.specs.Devices.{Failed, Tells}
 use Rattle.log_file.specs.Log.{Spells, begun, spelling, text_of, with_lf}
 use Rattle.log_file.specs.Sets.{ReaderFailed, SpellFrom, SpellSet}
 use Rattle.log_file.proofs.Devices.{consumes_end}
+use Rattle.log_file.proofs.Fed.{same_log}
 use Rattle.log_file.proofs.Lines.{begun_push, fits_push, spelling_is}
 use Rattle.verdict.specs.Counts.{IsBadCount}
 use Rattle.verdict.specs.Judgement.{IsAnswerTo}
@@ -79,7 +81,7 @@ module _ (core cores own_core own_cores : ℕ) (first still : Option (List ℕ))
   given_all all = record {
     text = h.0.bytes ++ lines_from records at;
     tells = consumes_end first still (h.0.bytes ++ lines_from records at) h.0.given (h.1 refl);
-    spells = subst (λ c. Spells core c (h.0.bytes ++ lines_from records at) answered) h.0.cores_is (subst (λ c. Spells c own_cores (h.0.bytes ++ lines_from records at) answered) h.0.core_is (Two, (h.0.answered.sound, spelled)));
+    spells = same_log (λ c n. Spells c n (h.0.bytes ++ lines_from records at) answered) h.0.core_is h.0.cores_is (Two, (h.0.answered.sound, spelled));
   }
     where
       last : lines_from records at ≡ with_lf (end_text (length answered))
@@ -117,28 +119,13 @@ given_first core cores records core_fits cores_fit = (
 pub handed_over : (core cores : ℕ) (s : GivenLog) → core < cores → cores ≤ 64 → s.core ≡ core → s.cores ≡ cores → s.given ≡ false
     → FollowsOn core cores (Some (text_left s.core s.cores s.records s.given)) (Some (text_left s.core s.cores s.records true)) (kept_at core cores s.records 0) []
 handed_over core cores s core_fits cores_fit core_is cores_is none =
-    let is : text_left s.core s.cores s.records s.given ≡ text_left core cores s.records false =
-    ap (λ n. text_left n s.cores s.records s.given) core_is ∙ ap (λ n. text_left core n s.records s.given) cores_is ∙ ap (text_left core cores s.records) none in
-    subst (λ text. FollowsOn core cores (Some text) (Some []) (kept_at core cores s.records 0) []) (sym is) (given_first core cores s.records core_fits cores_fit)
+    rw (core_is, cores_is, none) (given_first core cores s.records core_fits cores_fit)
 
 -- nothing stands past the end alone
 pub nothing_from : {X : Type 0} (items : List X) (at : ℕ) → slice_get items at ≡ None → length items ≤ at
 nothing_from [] at h = omega arith
 nothing_from (x ∷ items) zero h = absurd cc
 nothing_from (x ∷ items) (suc at) h = let later = nothing_from items at h in omega (arith, later)
-
--- what stands at an index, in the records
-pub record_there : {X : Type 0} (recorded : X → Record) (items : List X) (at : ℕ) (x : X) → slice_get items at ≡ Some x → slice_get (map recorded items) at ≡ Some (recorded x)
-record_there recorded [] zero x h = absurd cc
-record_there recorded [] (suc at) x h = absurd cc
-record_there recorded (y ∷ items) zero x h = let e : y ≡ x = cc in ap (λ z. Some (recorded z)) e
-record_there recorded (y ∷ items) (suc at) x h = record_there recorded items at x h
-
-pub fits_there : (records : List Record) (at : ℕ) (r : Record) → AllByRecursion (FitsIn Two) records → slice_get records at ≡ Some r → FitsIn Two r
-fits_there [] zero r all h = absurd cc
-fits_there [] (suc at) r all h = absurd cc
-fits_there (q ∷ records) zero r all h = let e : q ≡ r = cc in subst (FitsIn Two) e all.0
-fits_there (q ∷ records) (suc at) r all h = fits_there records at r all.1 h
 
 -- ---- the sources of all logs
 
@@ -176,12 +163,6 @@ texts_spell core cores (log ∷ records) (t ∷ texts) good many few tells =
 all_records : (sources : List GivenLog) → All (λ (log : GivenLog). AreOfLog log.records) sources → All AreOfLog (records_of sources)
 all_records [] good = All-nil AreOfLog
 all_records (s ∷ sources) good = All-cons AreOfLog s.records (records_of sources) (All-head (λ (log : GivenLog). AreOfLog log.records) s sources good) (all_records sources (All-tail (λ (log : GivenLog). AreOfLog log.records) s sources good))
-
-zip_many : {X Y : Type 0} (R : X → Y → Type 0) (xs : List X) (ys : List Y) → AllZip R xs ys → length ys ≡ length xs
-zip_many R [] [] zip = refl
-zip_many R [] (y ∷ ys) zip = absurd zip
-zip_many R (x ∷ xs) [] zip = absurd zip
-zip_many R (x ∷ xs) (y ∷ ys) zip = ap suc (zip_many R xs ys zip.1)
 
 -- ---- the answer
 
@@ -227,7 +208,7 @@ verdict_so sources after old new result r is good few b counted told =
     tells_in s text = Tells (Some (text_left s.core s.cores s.records s.given)) text
 
     many : length b.texts ≡ length sources
-    many = zip_many tells_in sources b.texts b.tells
+    many = AllZip-long tells_in sources b.texts b.tells
 
     spell : SpellSet b.texts (records_of sources)
     spell = subst (λ n. SpellFrom 0 n b.texts (records_of sources)) (sym many) (texts_spell 0 (length sources) (records_of sources) b.texts (all_records sources good)

@@ -1,8 +1,8 @@
 -- What was written where there is no Yes.
-use Rattle.std.specs.Prelude.{Err, ◌≡◌, ℕ, ◌<◌, true, false, List, [], ◌∷◌, ◌++◌, refl, Bool, Option, Some, None, Result, Ok, length, map, option_and_then, replicate, slice_get, take}
-use Rattle.std.proofs.Common.{sym, ◌∙◌, ap, subst, inl, inr, arith, append_assoc, append-nil}
-use Rattle.std.proofs.lemmas.List.{length-map}
-use Rattle.std.proofs.lemmas.Option.{slice_get_within}
+use Rattle.std.specs.Prelude.{Err, ◌≡◌, ℕ, ◌<◌, true, false, List, [], ◌∷◌, ◌++◌, refl, Option, Some, None, Result, Ok, length, map, replicate, slice_get, take}
+use Rattle.std.proofs.Common.{sym, ◌∙◌, ap, subst, inl, inr, arith, append_assoc}
+use Rattle.std.proofs.lemmas.List.{length-map, length-replicate}
+use Rattle.std.proofs.lemmas.Option.{get_or_from_slice_get, option_and_then_some, slice_get_within}
 use Rattle.line_stamps.specs.Ordered.{In, IsLeastIn}
 use Rattle.line_stamps.proofs.Ordered.{In-append_left, In-from_sorted, In-filter_map, filter_map-In, least_is, none_from_least}
 use Rattle.log_record.specs.declared.record.Record.{Record}
@@ -16,9 +16,7 @@ use Rattle.address_check.specs.AddressFaults.{address_fault, address_faults, lea
 use Rattle.address_check.specs.FaultOrder.{fault_cmp}
 use Rattle.address_check.specs.AddressLaw.{fault_total}
 use Rattle.address_check.proofs.StorePass.{key_of_fault}
-use Rattle.log_file.specs.declared.fault.LogFault.{LogFault}
-use Rattle.log_file.specs.Devices.{Tells}
-use Rattle.log_file.specs.Sets.{SpellSet, TellEach, text_at}
+use Rattle.log_file.specs.Sets.{SpellSet, text_at}
 use Rattle.verdict.specs.declared.answer.Verdict.{Verdict}
 use Rattle.merge_judge.specs.declared.merge_fault.MergeFault.{MergeFault}
 use Rattle.merge_judge.specs.declared.merge_fault.MergeFault.TheVariants.{Judge}
@@ -32,18 +30,16 @@ use Rattle.verdict.specs.Judgement.{IsYes}
 use Rattle.verdict.proofs.Told.{told}
 use Rattle.merge_judge.specs.Begun.{BeginsLog, BeginsOrder, EndBefore}
 use Rattle.merge_judge.specs.OrderText.{id_lines}
-use Rattle.merge_judge.specs.LaneParts.{KeptLog, LaneParts}
-use Rattle.merge_judge.specs.inner.Lanes.{IsMerged, IsStage, NoFalls, front_list, log_at}
+use Rattle.merge_judge.specs.LaneParts.{LaneParts}
+use Rattle.merge_judge.specs.inner.Lanes.{NoFalls, front_list, log_at}
 use Rattle.merge_judge.specs.inner.FinalVerdict.{AreBegun, IsFaultIn}
 use Rattle.log_file.specs.Log.{Spells}
 use Rattle.merge_judge.proofs.Along.{after_is_fault}
-use Rattle.merge_judge.proofs.Begins.{begins_front, begins_whole}
+use Rattle.merge_judge.proofs.Begins.{begins_front}
 use Rattle.merge_judge.proofs.Falls.{fall_left}
-use Rattle.merge_judge.proofs.Following.{begun_text}
 use Rattle.merge_judge.proofs.MergeSoFar.{front_of}
-use Rattle.merge_judge.proofs.Opening.{no_entries, none_there, replicate_long}
-use Rattle.merge_judge.proofs.FinalVerdict.{gather, log_there, tell_each}
-use Rattle.merge_judge.proofs.Merged.{one, there}
+use Rattle.merge_judge.proofs.Opening.{no_entries, none_there}
+use Rattle.merge_judge.proofs.Merged.{there}
 use Rattle.merge_judge.proofs.Shown.{IsShown, none_yes, yes_where}
 
 -- what is written of the ids that are shown
@@ -76,49 +72,6 @@ begins_order texts result order merged done lanes written kept s begun lines bef
   lines = (length written, sym (front_of written kept (id_lines order) lines) ∙ ap (λ ids. take (length written) (id_lines ids)) s.order_is);
 }
 
--- ---- the texts of logs that haven't ended
-
-abbrev IsBegun : ℕ → ℕ → List ℕ → List Record → Option Record → Option LogFault → Type 0
-IsBegun core cores text merged front fault = BeginsLog core cores text (merged ++ front_list front) × (front ≡ None → fault ≡ None → Spells core cores text merged)
-
-begun_stage : (core cores : ℕ) (first still : Option (List ℕ)) (log : KeptLog) (merged : List Record) (front : Option Record) (fault : Option LogFault) → IsStage core cores first still log merged front fault → (text : List ℕ) × (Tells first text × IsBegun core cores text merged front fault)
-begun_stage core cores first still log merged (Some r) fault h =
-    let t = begun_text core cores first still log.log (merged ++ r ∷ []) h.1.0 in
-    (t.0, (t.1, (t.2, λ none. absurd cc)))
-begun_stage core cores first still log merged None None h =
-    (h.text, (h.tells, (subst (λ rs. BeginsLog core cores h.text rs) (sym (append-nil merged)) (begins_whole core cores h.text merged h.spells), λ none sound. h.spells)))
-begun_stage core cores first still log merged None (Some f) h =
-    (h.text, (h.tells, (subst (λ rs. BeginsLog core cores h.text rs) (sym (append-nil merged)) h.begins, λ none sound. absurd cc)))
-
-pub begun_texts : {S : Type 0} (remaining : S → Option (List ℕ)) (failed : S → ℕ) (before after : List S) (lanes : List LaneParts) (numbers : List ℕ) (clean : Bool) (merged : List (List Record)) (done : List Entry)
-    → IsMerged remaining failed before after lanes numbers clean merged done → (texts : List (List ℕ)) × (TellEach remaining before texts × AreBegun texts lanes merged)
-begun_texts {S} remaining failed before after lanes numbers clean merged done m = (
-  all.0,
-  (
-    tell_each remaining before all.0 all.1.0 (λ k b h. (all.1.1 k b h).0),
-    record {
-      many = m.logs ∙ sym all.1.0;
-      lanes_many = m.many ∙ sym all.1.0;
-      each = λ k l hl. (let b = there before k (within k l hl) in subst (λ n. BeginsLog k n (text_at all.0 k) (log_at merged k ++ front_list l.front)) (sym all.1.0) ((all.1.1 k b.0 b.1).1 l hl).0);
-      whole = λ k l hl none sound. (let b = there before k (within k l hl) in subst (λ n. Spells k n (text_at all.0 k) (log_at merged k)) (sym all.1.0) (((all.1.1 k b.0 b.1).1 l hl).1 none sound));
-    },
-  ),
-)
-  where
-    IsTextOf : ℕ → S → List ℕ → Type 0
-    IsTextOf k b text = Tells (remaining b) text × ((l : LaneParts) → slice_get lanes k ≡ Some l → IsBegun k (length before) text (log_at merged k) l.front l.fault)
-
-    within : (k : ℕ) (l : LaneParts) → slice_get lanes k ≡ Some l → k < length before
-    within k l hl = let w = slice_get_within lanes k l hl in omega (arith, w, m.many)
-
-    all : (texts : List (List ℕ)) × ((length texts ≡ length before) × ((k : ℕ) (b : S) → slice_get before k ≡ Some b → IsTextOf k b (text_at texts k)))
-    all = gather IsTextOf before (λ k b hb.
-        let w = slice_get_within before k b hb in
-        let a = there after k (omega (arith, w, m.readers)) in
-        let l = there lanes k (omega (arith, w, m.many)) in
-        let t = begun_stage k (length before) (remaining b) (remaining a.0) l.0.log (log_at merged k) l.0.front l.0.fault (m.lane k b a.0 l.0 hb a.1 l.1).stage in
-        (t.0, (t.1.0, λ x hx. subst (λ (y : LaneParts). IsBegun k (length before) t.0 (log_at merged k) y.front y.fault) (one (slice_get lanes k) l.0 x l.1 hx) t.1.1)))
-
 -- no record of the texts
 pub none_begins : {S : Type 0} (remaining : S → Option (List ℕ)) (readers : List S) (f : JudgeFault) → BeginsOrder (map (λ reader. told (remaining reader)) readers) (Err (Judge f)) []
 none_begins remaining readers f =
@@ -126,7 +79,7 @@ none_begins remaining readers f =
     record {
       logs = replicate n [];
       begun = record {
-        many = replicate_long n [] ∙ sym (length-map readers (λ reader. told (remaining reader)));
+        many = length-replicate n [] ∙ sym (length-map readers (λ reader. told (remaining reader)));
         each = λ k w. inl (none_there n k);
       };
       next = λ k w. inr (inr (no_entries 0 n));
@@ -142,10 +95,6 @@ split_at e [] p = absurd p
 split_at e (x ∷ es) (inl same) = ([], (es, ap (λ y. y ∷ es) same))
 split_at e (x ∷ es) (inr p) = let t = split_at e es p in (x ∷ t.0, (t.1.0, ap (λ ys. x ∷ ys) t.1.1))
 
-found_there : (o : Option (List Record)) (i : ℕ) (r : Record) → option_and_then (λ log. slice_get log i) o ≡ Some r → (log : List Record) × ((o ≡ Some log) × (slice_get log i ≡ Some r))
-found_there None i r h = absurd cc
-found_there (Some log) i r h = (log, (refl, h))
-
 nothing_there : (o : Option Record) → ((r : Record) → o ≡ Some r → ⊥) → o ≡ None
 nothing_there None h = refl
 nothing_there (Some r) h = absurd (h r refl)
@@ -153,14 +102,13 @@ nothing_there (Some r) h = absurd (h r refl)
 module _ (order : List OpId) (merged : List (List Record)) (done : List Entry) (lanes : List LaneParts) (s : IsShown order merged done lanes) where
   -- a record that falls isn't shown
   fall_not_shown : (id : OpId) → is_core_fault (log_at merged id.core) id.index ≡ true → (r : Record) → record_at s.logs id ≡ Some r → ⊥
-  fall_not_shown id fall r h =
-      let t = found_there (slice_get s.logs id.core) id.index r h in
-      let same : log_at s.logs id.core ≡ t.0 = one (slice_get s.logs id.core) (log_at s.logs id.core) t.0 (log_there s.logs id.core (slice_get_within s.logs id.core t.0 t.1.0)) t.1.0 in
-      let low : id.index < length (log_at s.logs id.core) = subst (λ rs. id.index < length rs) (sym same) (slice_get_within t.0 id.index r t.1.1) in
+  fall_not_shown id fall r h = option_and_then_some (λ (log : List Record). slice_get log id.index) (slice_get s.logs id.core) r h (λ log place there. (
+      let same : log_at s.logs id.core ≡ log = get_or_from_slice_get s.logs id.core log [] place in
+      let low : id.index < length (log_at s.logs id.core) = subst (λ rs. id.index < length rs) (sym same) (slice_get_within log id.index r there) in
       let b = s.begins id.core in
-      let steady : is_core_fault (log_at s.logs id.core) id.index ≡ false = ap (λ rs. is_core_fault rs id.index) same ∙ s.rises id.core t.0 t.1.0 id.index in
+      let steady : is_core_fault (log_at s.logs id.core) id.index ≡ false = ap (λ rs. is_core_fault rs id.index) same ∙ s.rises id.core log place id.index in
       let falls : is_core_fault (log_at s.logs id.core) id.index ≡ true = sym (fall_left (log_at s.logs id.core) b.0 id.index low) ∙ ap (λ rs. is_core_fault rs id.index) b.1 ∙ fall in
-      cc
+      cc))
 
   module _ (by_key_is : done ≡ by_key merged) where
     whole_is : by_key merged ≡ by_key s.logs ++ s.first.0

@@ -58,8 +58,7 @@ holds_after values sources done e addr is at within h = record {
 
 pub holds_store : (values : List ℕ) (sources : List Source) (done : List Entry) (e : Entry) (addr value : ℕ) (id : OpId) → is_store e.logged.act ≡ true → addr ≡ e.logged.addr → addr < 65536 → value ≡ e.logged.value → id ≡ e.id → Holds values sources done → Holds (slice_set values addr value) (slice_set sources addr (From id)) (done ++ e ∷ [])
 holds_store values sources done e addr value id is at within v i h =
-    subst (λ x. Holds (slice_set values addr x) (slice_set sources addr (From id)) (done ++ e ∷ [])) (sym v)
-    (subst (λ x. Holds (slice_set values addr e.logged.value) (slice_set sources addr (From x)) (done ++ e ∷ [])) (sym i) (holds_after values sources done e addr is at within h))
+    rw (v, i) (holds_after values sources done e addr is at within h)
 
 -- what is found where a value was read
 read_by_words : (values : List ℕ) (sources : List Source) (done : List Entry) (e : Entry) (addr word : ℕ) (source : Source) (read : ℕ) (from : Source) → addr ≡ e.logged.addr → addr < 65536 → Holds values sources done → word ≡ get_or values addr word → from ≡ get_or sources addr from → fault_by e (broken_by source read from word) ≡ fault_by e (broken_rule source read (last_store_to e.logged.addr done))

@@ -25,11 +25,8 @@ cut_off old new text kept f t = (
 pub none_written : {E : Type 0} (o : Option (List ℕ)) (front line kept : List ℕ) (f : E) → 0 < length line → IsWritten o o (front ++ line) (Err f) kept
 none_written o front line kept f some = ([], (front ++ line, appends_none o, refl, tt, λ none. omega (arith, some, ap length none, length-append front line)))
 
-some_behind : (xs ys : List ℕ) (y : ℕ) → 0 < length (xs ++ y ∷ ys)
-some_behind xs ys y = omega (arith, length-append xs (y ∷ ys))
-
 pub id_line_some : (id : OpId) → 0 < length (id_line id)
-id_line_some id = some_behind (id_text id) [] 10
+id_line_some id = omega (arith, length-append (id_text id) (10 ∷ []))
 
 pub end_line_some : (count : ℕ) → 0 < length (end_line count)
 end_line_some count = omega arith

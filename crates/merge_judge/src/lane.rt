@@ -1,10 +1,13 @@
 //! One log of a merge.
 
-ghost use Rattle.std.specs.Prelude.{◌≡◌, ◌<◌, ◌≤◌, ◌∷◌, ◌++◌, ℕ, List, [], Some, None, IfOk, false, true};
+ghost use Rattle.std.specs.Prelude.{◌≡◌, ◌<◌, ◌≤◌, ◌∷◌, ◌++◌, ℕ, List, [], Option, Some, None, IfOk, false, true};
 ghost use Rattle.mem_op.specs.Limits.{operation_limit};
 ghost use Rattle.log_record.specs.declared.record.Record.{Record};
+ghost use Rattle.core_check.specs.CoreOrder.{falls};
 ghost use Rattle.log_file.specs.Answering.{IsFaultless};
-ghost use Rattle.merge_judge.specs.inner.Lanes.{IsFaulty, IsLaneAt, falls_now};
+ghost use Rattle.log_file.specs.Devices.{Failed};
+ghost use Rattle.merge_judge.specs.inner.Following.{FollowsOn};
+ghost use Rattle.merge_judge.specs.inner.Lanes.{IsFaulty, IsLaneAt, IsStage, first_to_fall};
 
 use super::record_source::{Reading, RecordSource};
 use log_file::LogFault;
@@ -36,13 +39,48 @@ impl<L: Reading> Model for Lane<L> {
     ghost view = { λ a. record { log = L.kept a.log; front = a.front; merged = a.merged; falls = a.falls; fault = a.fault } };
 }
 
-/// Whether `(ts, rank)` falls from one record to the next, and didn't before.
-fn falls_now(known: Option<usize>, earlier: &Record, later: &Record) -> bool
-    ensures { result ≡ falls_now known earlier.now later.now }
+/// Whether `(ts, rank)` of the later record is less than that of the earlier.
+fn falls(earlier: &Option<Record>, later: &Option<Record>) -> bool
+    ensures { result ≡ falls earlier.now later.now }
+{
+    match (earlier, later) {
+        (Some(earlier), Some(later)) => (later.ts, later.rank) < (earlier.ts, earlier.rank),
+        _ => false,
+    }
+}
+
+/// The first index at which a log falls: the known one, or else this one if the later record falls.
+fn first_to_fall(
+    known: Option<usize>,
+    index: usize,
+    earlier: &Option<Record>,
+    later: &Option<Record>,
+) -> Option<usize>
+    ensures { result ≡ first_to_fall known index earlier.now later.now }
 {
     match known {
-        None => (later.ts, later.rank) < (earlier.ts, earlier.rank),
-        Some(_) => false,
+        Some(_) => known,
+        None if falls(earlier, later) => Some(index),
+        None => None,
+    }
+}
+
+/// The next record of a log, if there is one, and why the log has no more, if it isn't whole.
+#[inline(always)]
+fn read<L: Reading, S: RecordSource<L>>(
+    source: &mut S,
+    log: &mut L,
+) -> (Option<Record>, Option<LogFault>)
+    requires { IsFaultless (L.kept log.old).log.reader }
+    ensures stage { (core cores : ℕ) (first : Option (List ℕ)) (records : List Record)
+        → FollowsOn core cores first (S.remaining source.old) (L.kept log.old) records
+        → IsStage core cores first (S.remaining source.new) (L.kept log.new) records result.0 result.1 }
+    ensures read { result.1 ≡ Some LogFault.Read → Failed (S.failed source.old) (S.failed source.new) }
+    ensures quiet { ¬ (result.1 ≡ Some LogFault.Read) → S.failed source.new ≡ S.failed source.old }
+{
+    match source.next(log) {
+        Ok(next) => (next, None),
+        Err(fault) => (None, Some(fault)),
     }
 }
 
@@ -57,35 +95,25 @@ impl<L: Reading> Lane<L> {
         requires core { core < cores }
         requires cores { cores ≤ 64 }
         requires fits { S.fits core cores source.old }
-        ensures at { IfOk result (λ lane.
+        ensures { IfOk result (λ lane.
             IsLaneAt S.remaining S.failed core cores source.old source.new lane []) }
-        ensures merged { IfOk result (λ lane. lane.merged ≡ 0) }
-        ensures steady { IfOk result (λ lane. lane.falls ≡ None) }
     {
         let mut log = source.open(alloc, core, cores)?;
-        match source.next(&mut log) {
-            Ok(front) => Ok(Lane {
-                log,
-                front,
-                merged: 0,
-                falls: None,
-                fault: None,
-            }),
-            Err(fault) => Ok(Lane {
-                log,
-                front: None,
-                merged: 0,
-                falls: None,
-                fault: Some(fault),
-            }),
-        }
+        let (front, fault) = read(source, &mut log);
+        Ok(Lane {
+            log,
+            front,
+            merged: 0,
+            falls: None,
+            fault,
+        })
     }
 
     /// The first unmerged record, if there is one.
-    pub(crate) fn front(&self) -> Option<Record>
-        ensures { result ≡ self.now.front }
+    pub(crate) fn front(&self) -> &Option<Record>
+        ensures { result.now ≡ self.now.front }
     {
-        self.front
+        &self.front
     }
 
     /// How many records are merged.
@@ -109,40 +137,35 @@ impl<L: Reading> Lane<L> {
         self.fault
     }
 
-    /// Merges the front, and reads the next record. False if that one is the first to fall, or the log has a fault.
-    pub(crate) fn advance<S: RecordSource<L>>(&mut self, source: &mut S, front: &Record) -> bool
+    /// Whether no fault was found in the log.
+    pub(crate) fn is_clean(&self) -> bool
+        ensures found { result ≡ false → IsFaulty self.now }
+        ensures steady { result ≡ true → self.now.falls ≡ None }
+        ensures whole { result ≡ true → self.now.fault ≡ None }
+    {
+        match self.falls {
+            Some(_) => false,
+            None => match self.fault {
+                Some(_) => false,
+                None => true,
+            },
+        }
+    }
+
+    /// Merges the front, and reads the next record.
+    pub(crate) fn advance<S: RecordSource<L>>(&mut self, source: &mut S)
         requires faultless { IsFaultless self.old.log.log.reader }
         requires room { self.old.merged < operation_limit }
-        ensures advanced { (core cores : ℕ) (before : S) (merged : List Record)
-            → self.old.front ≡ Some front.now
+        ensures advanced { (core cores : ℕ) (before : S) (merged : List Record) (front : Record)
+            → self.old.front ≡ Some front
             → IsLaneAt S.remaining S.failed core cores before source.old self.old merged
-            → IsLaneAt S.remaining S.failed core cores before source.new self.new
-            (merged ++ front.now ∷ []) }
+            → IsLaneAt S.remaining S.failed core cores before source.new self.new (merged ++ front ∷ []) }
         ensures falls { self.new.falls ≡ None → self.old.falls ≡ None }
-        ensures steady { result ≡ true → self.old.falls ≡ None → self.new.falls ≡ None }
-        ensures whole { result ≡ true → self.old.fault ≡ None → self.new.fault ≡ None }
-        ensures faulty { IsFaulty self.old → IsFaulty self.new }
-        ensures found { result ≡ false → IsFaulty self.new }
     {
+        let (next, fault) = read(source, &mut self.log);
         self.merged += 1;
-        match source.next(&mut self.log) {
-            Ok(Some(next)) => {
-                self.front = Some(next);
-                if falls_now(self.falls, front, &next) {
-                    self.falls = Some(self.merged);
-                    return false;
-                }
-                true
-            }
-            Ok(None) => {
-                self.front = None;
-                true
-            }
-            Err(fault) => {
-                self.front = None;
-                self.fault = Some(fault);
-                false
-            }
-        }
+        self.falls = first_to_fall(self.falls, self.merged, &self.front, &next);
+        self.front = next;
+        self.fault = fault;
     }
 }

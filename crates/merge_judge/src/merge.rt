@@ -58,8 +58,8 @@ impl<L: Reading> Merge<L> {
         let mut clean = true;
         for (core, reader) in readers.iter_mut().enumerate() {
             let lane = Lane::new(alloc, CoreId::at(core), cores, reader)?;
-            clean = clean && lane.fault().is_none();
-            numbers.push(front_number(&lane.front(), core))?;
+            clean = clean && lane.is_clean();
+            numbers.push(front_number(lane.front(), core))?;
             lanes.push(lane)?;
         }
         let fronts = Tournament::new(alloc, numbers)?;
@@ -86,13 +86,14 @@ impl<L: Reading> Merge<L> {
     {
         let core = self.fronts.first();
         let lane = &mut self.lanes[core];
-        let Some(logged) = lane.front() else {
+        let Some(front) = lane.front() else {
             return None;
         };
         let (place, index) = (CoreId::at(core), OpIndex::at(lane.merged()));
-        let entry = Entry::new(OpId { core: place, index }, &logged);
-        let clean = lane.advance(&mut readers[core], &logged);
-        self.fronts.set(core, front_number(&lane.front(), core));
+        let entry = Entry::new(OpId { core: place, index }, front);
+        lane.advance(&mut readers[core]);
+        let clean = lane.is_clean();
+        self.fronts.set(core, front_number(lane.front(), core));
         self.clean = self.clean && clean;
         Some(entry)
     }

@@ -1,11 +1,11 @@
 //! A log that is read one record at a time.
 
-ghost use Rattle.std.specs.Prelude.{◌≡◌, ◌<◌, ◌≤◌, ◌++◌, ℕ, List, [], Ok, Some, Option, IfOk, IfErr, IsErrOf, MatchResult, OnErr, length};
+ghost use Rattle.std.specs.Prelude.{◌≡◌, ◌<◌, ◌≤◌, ◌++◌, ℕ, List, [], Ok, Some, Option, IfOk, IfErr, IsErrOf, MatchResult, OnErr, false, length};
 ghost use Rattle.std.specs.Io.KnownBytes.{Consumes, IsAtEnd, Keeps};
 ghost use Rattle.log_record.specs.declared.record.Record.{Record};
 ghost use Rattle.log_file.specs.Answering.{HasAnswered, IsFaultless};
 ghost use Rattle.log_file.specs.Devices.{CountsFailure, Failed};
-ghost use Rattle.merge_judge.specs.inner.Following.{Follows, IsNext, TakesOne};
+ghost use Rattle.merge_judge.specs.inner.Following.{Follows, IsNextOn, TakesOne};
 
 use super::record_source::{Reading, RecordSource};
 use log_file::{ByteSource, LogFault, ReadFailed, RecordReader};
@@ -103,7 +103,8 @@ impl OpenLog {
         ensures cores { self.new.reader.cores ≡ self.old.reader.cores }
         ensures next { (core cores : ℕ) (first : Option (List ℕ)) (records : List Record)
             → Follows core cores first (S.remaining source.old) self.old records
-            → IsNext core cores first records result (S.remaining source.new) self.new }
+            → IsNextOn core cores first records result (S.remaining source.new)
+            (record { log = self.new; whole = false }) }
         ensures read { IsErrOf result LogFault.Read →
             Failed (S.failed source.old) (S.failed source.new) }
         ensures quiet { ¬ IsErrOf result LogFault.Read → S.failed source.new ≡ S.failed source.old }

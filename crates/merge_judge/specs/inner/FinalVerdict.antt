@@ -17,7 +17,9 @@ use Rattle.verdict.specs.FaultParts.{FaultParts}
 use Rattle.verdict.specs.Faults.{from_address}
 use Rattle.verdict.specs.declared.rule.Rule.TheVariants.{CoreOrder}
 use Rattle.merge_judge.specs.inner.Lanes.{NoFalls, front_list, log_at}
+use Rattle.log_file.specs.declared.fault.LogFault.{LogFault}
 use Rattle.log_file.specs.declared.fault.SetFault.{SetFault}
+use Rattle.log_file.specs.Answers.{IsFaultOrDevice}
 use Rattle.merge_judge.specs.LaneParts.{LaneParts}
 use Rattle.merge_judge.specs.Answer.{IsQuietUpTo}
 use Rattle.merge_judge.specs.Begun.{BeginsLog}
@@ -52,12 +54,13 @@ IsClean lanes merged texts (Ok (No fault)) = SpellSet texts merged × IsFaultIn 
 IsClean lanes merged texts (Err fault) = Unit {0}
 
 -- Each text begins with the merged records of its log, and then the front. If the log has ended without a fault, the text
--- spells just these records.
+-- spells just these records. A fault that was found is the text's, or it comes of memory or of the reader.
 pub record AreBegun (texts : List (List ℕ)) (lanes : List LaneParts) (merged : List (List Record)) : Type 0 where
   pub many : length merged ≡ length texts
   pub lanes_many : length lanes ≡ length texts
   pub each : (k : ℕ) (lane : LaneParts) → slice_get lanes k ≡ Some lane → BeginsLog k (length texts) (text_at texts k) (log_at merged k ++ front_list lane.front)
   pub whole : (k : ℕ) (lane : LaneParts) → slice_get lanes k ≡ Some lane → lane.front ≡ None → lane.fault ≡ None → Spells k (length texts) (text_at texts k) (log_at merged k)
+  pub faults : (k : ℕ) (lane : LaneParts) (fault : LogFault) → slice_get lanes k ≡ Some lane → lane.fault ≡ Some fault → IsFaultOrDevice k (length texts) (text_at texts k) fault
 
 -- the answer to the texts that the readers told
 pub record IsFinalVerdict {S : Type 0} (remaining : S → Option (List ℕ)) (failed : S → ℕ) (before after : List S) (lanes : List LaneParts) (merged : List (List Record)) (result : Result Verdict JudgeFault) : Type 0 where

@@ -39,18 +39,13 @@ pub record EndsAt (core cores : ℕ) (first : Option (List ℕ)) (records : List
   pub tells : Tells first text
   pub holds : IsFaultOrDevice core cores text fault
 
--- the answer after these records: the next one, or None if the log has ended whole
-abbrev pub IsNext : ℕ → ℕ → Option (List ℕ) → List Record → Result (Option Record) LogFault → Option (List ℕ) → OpenedLog → Type 0
-IsNext core cores first records (Ok (Some r)) still new = Follows core cores first still new (records ++ r ∷ [])
-IsNext core cores first records (Ok None) still new = EndsWhole core cores first records
-IsNext core cores first records (Err fault) still new = EndsAt core cores first records fault
-
 -- ---- a log that may hold all bytes that are left of it
 
 abbrev pub FollowsOn : ℕ → ℕ → Option (List ℕ) → Option (List ℕ) → KeptLog → List Record → Type 0
 FollowsOn core cores first still kept records =
     Follows core cores first still kept.log records × (kept.whole ≡ true → IsAtEnd still)
 
+-- the answer after these records: the next one, or None if the log has ended whole
 abbrev pub IsNextOn : ℕ → ℕ → Option (List ℕ) → List Record → Result (Option Record) LogFault → Option (List ℕ) → KeptLog → Type 0
 IsNextOn core cores first records (Ok (Some r)) still new = FollowsOn core cores first still new (records ++ r ∷ [])
 IsNextOn core cores first records (Ok None) still new = EndsWhole core cores first records

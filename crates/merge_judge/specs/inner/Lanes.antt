@@ -1,5 +1,5 @@
 -- The logs of a set while they are merged.
-use Rattle.std.specs.Prelude.{◌≡◌, ◌≢◌, ℕ, zero, suc, ◌+◌, ◌*◌, ◌<◌, ◌≤◌, ◌⊎◌, Bool, true, false, List, [], ◌∷◌, ◌++◌, Option, None, Some, length, slice_get, slice_index, slice_index_or}
+use Rattle.std.specs.Prelude.{◌≡◌, ◌≢◌, ℕ, zero, suc, ◌+◌, ◌*◌, ◌<◌, ◌≤◌, ◌⊎◌, Bool, true, false, List, [], ◌∷◌, ◌++◌, Option, None, Some, if◌then◌else◌, length, slice_get, slice_index, slice_index_or}
 use Rattle.std.specs.Ordering.{is_lt}
 use Rattle.mem_op.specs.Limits.{operation_limit}
 use Rattle.line_stamps.specs.Ordered.{In}
@@ -7,7 +7,7 @@ use Rattle.log_record.specs.declared.record.Record.{Record}
 use Rattle.log_record.specs.declared.record.Entry.{Entry}
 use Rattle.log_record.specs.Entries.{entries, entry_cmp}
 use Rattle.core_program.specs.Least.{IsLeastWhere}
-use Rattle.core_check.specs.CoreOrder.{is_core_fault, stamp_cmp}
+use Rattle.core_check.specs.CoreOrder.{falls, is_core_fault}
 use Rattle.log_file.specs.declared.fault.LogFault.{LogFault}
 use Rattle.log_file.specs.declared.fault.LogFault.TheVariants.{Read}
 use Rattle.log_file.specs.Devices.{Failed}
@@ -21,14 +21,10 @@ abbrev pub front_list : Option Record → List Record
 front_list None = []
 front_list (Some r) = r ∷ []
 
--- whether (ts, rank) of the later record is less than that of the earlier
-abbrev pub falls_after : Record → Record → Bool
-falls_after earlier later = is_lt (stamp_cmp later earlier)
-
--- whether it is less, and no earlier record of the log has fallen
-abbrev pub falls_now : Option ℕ → Record → Record → Bool
-falls_now None earlier later = falls_after earlier later
-falls_now (Some i) earlier later = false
+-- the first index at which a log falls: the known one, or else this one if the later record falls
+abbrev pub first_to_fall : Option ℕ → ℕ → Option Record → Option Record → Option ℕ
+first_to_fall None at earlier later = if falls earlier later then Some at else None
+first_to_fall (Some i) at earlier later = Some i
 
 -- a fault was found in the log
 abbrev pub IsFaulty : LaneParts → Type 0

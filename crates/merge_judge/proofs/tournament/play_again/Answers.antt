@@ -6,7 +6,7 @@ pub loop-at-init : goal.loop-at-init
 loop-at-init c = played_to_start c.args.numbers.now c.args.winners.now c.args.place c.requires.some c.requires.played
 
 pub loop-at-preserved : goal.loop-at-preserved
-loop-at-preserved c = played_to_more c.args.numbers.now c.loop-at.winners c.args.place c.loop-at.at c.play.result c.loop-at.invariant c.loop-at-test.true c.play.ensures.wins c.play.ensures.within
+loop-at-preserved c = played_to_more c.args.numbers.now c.loop-at.winners c.loop-at.at c.play.result c.loop-at.invariant c.loop-at-test.true c.play.ensures.wins c.play.ensures.within
 
 pub returns : goal.returns
-returns c = played_again c.args.numbers.now c.loop-at.winners c.args.place c.loop-at.at c.loop-at.invariant c.loop-at-test.false
+returns c = played_again c.args.numbers.now c.loop-at.winners c.loop-at.at c.loop-at.invariant c.loop-at-test.false

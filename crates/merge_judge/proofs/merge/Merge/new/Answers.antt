@@ -1,12 +1,10 @@
 -- One log after another.
-use Rattle.std.proofs.Common.{◌≡◌, ◌+◌, ◌++◌, ◌∷◌, [], Some, ℕ, List, length, arith, ap, subst, sym, refl, ◌∙◌, ◌⊎◌, inl, inr}
-use Rattle.std.specs.Prelude.{Option, get_or, is_some, slice_get, slice_set, false, true, None}
+use Rattle.std.proofs.Common.{◌≡◌, [], Some, length, arith, ap, subst, sym, refl, ◌∙◌, ◌⊎◌, inl, inr}
+use Rattle.std.specs.Prelude.{Option, get_or, slice_get, false, true, None}
 use Rattle.std.proofs.lemmas.Option.{slice_get_read}
 use Rattle.log_record.specs.declared.record.Record.{Record}
-use Rattle.merge_judge.specs.LaneParts.{LaneParts}
-use Rattle.merge_judge.specs.inner.Lanes.{IsFaulty, IsFrontNumber, IsLaneAt, IsMerged}
-use Rattle.merge_judge.specs.inner.Merging.{none_of}
-use Rattle.merge_judge.proofs.Opening.{Opened, all_opened, is_faulty, is_whole, opened_more, opened_none}
+use Rattle.merge_judge.specs.inner.Lanes.{IsFaulty, IsFrontNumber, IsLaneAt}
+use Rattle.merge_judge.proofs.Opening.{all_opened, opened_more, opened_none}
 use Rattle.merge_judge.proofs.merge.Merge.new.Goals as goal
 use Rattle.merge_judge.proofs.merge.Merge.new.Goals.{then-clean, else-clean}
 
@@ -26,20 +24,17 @@ loop-core-preserved g c =
     let inv = loop.invariant in
     let source_is : slice_get readers core ≡ Some source = slice_get_read readers (length readers) core c.index-readers-core.result refl (omega (arith, loop.auto.readers, c.loop-core-test.true)) c.index-readers-core.is ∙ ap (λ s. Some s) c.index-readers-core.is in
     let at : IsLaneAt g.S.RecordSource.remaining g.S.RecordSource.failed core (length c.args.readers.now) source c.new.new.source lane [] =
-    subst (λ n. IsLaneAt g.S.RecordSource.remaining g.S.RecordSource.failed n (length c.args.readers.now) source c.new.new.source lane []) c.at.ensures c.in_ok-lane.ensures.at in
+    subst (λ n. IsLaneAt g.S.RecordSource.remaining g.S.RecordSource.failed n (length c.args.readers.now) source c.new.new.source lane []) c.at.ensures c.in_ok-lane.ensures in
     let found : c.if-clean.clean ≡ false → (loop.clean ≡ false) ⊎ IsFaulty lane =
-    (λ h. elim c.if-clean.branch [ then-clean w ↦ inr (is_faulty lane w.is_none-clean.result (ap is_some (sym w.fault.ensures) ∙ w.is_none-clean.ensures) (sym w.clean-is ∙ h)) | else-clean w ↦ inl w.if-clean.false ]) in
-    let kept : c.if-clean.clean ≡ true → (loop.clean ≡ true) × (lane.fault ≡ None) =
+    (λ h. elim c.if-clean.branch [ then-clean w ↦ inr (w.is_clean-clean.ensures.found (sym w.clean-is ∙ h)) | else-clean w ↦ inl w.if-clean.false ]) in
+    let kept : c.if-clean.clean ≡ true → (loop.clean ≡ true) × (lane.falls ≡ None) × (lane.fault ≡ None) =
     (λ h. elim c.if-clean.branch [
-      | then-clean w ↦ (w.if-clean.true, is_whole lane w.is_none-clean.result (ap is_some (sym w.fault.ensures) ∙ w.is_none-clean.ensures) (sym w.clean-is ∙ h))
+      | then-clean w ↦ (w.if-clean.true, w.is_clean-clean.ensures.steady (sym w.clean-is ∙ h), w.is_clean-clean.ensures.whole (sym w.clean-is ∙ h))
       | else-clean w ↦ absurd (let a : loop.clean ≡ true = sym w.clean-is ∙ h in let b : loop.clean ≡ false = w.if-clean.false in cc)
     ]) in
-    let more = opened_more g.S.RecordSource.remaining g.S.RecordSource.failed c.args.readers.now readers core loop.lanes.items loop.numbers.items loop.clean inv.opened source c.new.new.source source_is lane c.front_number.result c.if-clean.clean at (subst (λ (o : Option Record). IsFrontNumber core o c.front_number.result) c.front.ensures c.front_number.ensures) found c.in_ok-lane.ensures.steady kept in
-    let h = c.in_ok-push-2.ensures.items in
-    let h2 = c.in_ok-push.ensures.items in
+    let more = opened_more g.S.RecordSource.remaining g.S.RecordSource.failed c.args.readers.now readers core loop.lanes.items loop.numbers.items loop.clean inv.opened source c.new.new.source source_is lane c.front_number.result c.if-clean.clean at (subst (λ (o : Option Record). IsFrontNumber core o c.front_number.result) c.front.ensures c.front_number.ensures) found kept in
     record {
-      opened = subst (λ (ls : List LaneParts). Opened g.S.RecordSource.remaining g.S.RecordSource.failed c.args.readers.now (slice_set readers core c.new.new.source) (core + 1) ls c.push.new.self.items c.if-clean.clean) (sym h)
-          (subst (λ (ns : List ℕ). Opened g.S.RecordSource.remaining g.S.RecordSource.failed c.args.readers.now (slice_set readers core c.new.new.source) (core + 1) (loop.lanes.items ++ lane ∷ []) ns c.if-clean.clean) (sym h2) more);
+      opened = rw (c.in_ok-push-2.ensures.items, c.in_ok-push.ensures.items) more;
       cores = refl;
     }
 
@@ -52,5 +47,4 @@ new-requires-2-clause-few g c = omega (arith, c.loop-core.numbers.ok.0, c.loop-c
 pub returns : goal.returns
 returns g c =
     let loop = c.loop-core in
-    subst (λ (ns : List ℕ). IsMerged g.S.RecordSource.remaining g.S.RecordSource.failed c.args.readers.now loop.readers loop.lanes.items ns loop.clean (none_of c.args.readers.now) []) (sym c.in_ok-fronts.ensures)
-    (all_opened g.S.RecordSource.remaining g.S.RecordSource.failed c.args.readers.now loop.readers loop.core loop.lanes.items loop.numbers.items loop.clean loop.invariant.opened (omega (arith, c.loop-core-test.false, loop.auto.core-end)) c.requires.some c.requires.few)
+    rw c.in_ok-fronts.ensures (all_opened g.S.RecordSource.remaining g.S.RecordSource.failed c.args.readers.now loop.readers loop.core loop.lanes.items loop.numbers.items loop.clean loop.invariant.opened (omega (arith, c.loop-core-test.false, loop.auto.core-end)) c.requires.some c.requires.few)

@@ -1,6 +1,5 @@
 -- The source of a text may give more.
-use Rattle.merge_judge.proofs.LaneFacts.{text_next}
 use Rattle.merge_judge.proofs.open_log.AnyRecordSourceOpenLog.next.Goals as goal
 
 pub returns-clause-next : goal.returns-clause-next
-returns-clause-next g c = λ core cores first records h. text_next core cores first records c.next.result (g.S.ByteSource.remaining c.next.new.source) c.next.new.self (c.next.ensures.next core cores first records h.0)
+returns-clause-next g c = λ core cores first records h. c.next.ensures.next core cores first records h.0

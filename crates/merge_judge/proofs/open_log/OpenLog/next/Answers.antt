@@ -1,13 +1,11 @@
 -- A record of the bytes that were read, or of one more piece; and the end of the file.
-use Rattle.std.proofs.Common.{◌≡◌, ◌++◌, ℕ, List, Ok, None, [], subst, sym, ap, ◌∙◌, arith, rules}
+use Rattle.std.proofs.Common.{◌++◌, subst, sym, ap, ◌∙◌, arith, rules}
 use Rattle.std.proofs.lemmas.List.{nil_from_length}
 use Rattle.std.proofs.lemmas.Result.{err_from_is_err_and}
-use Rattle.log_record.specs.declared.record.Record.{Record}
 use Rattle.log_file.specs.Answering.{Answering, HasAnswered}
-use Rattle.merge_judge.specs.LogKept.{opened}
+use Rattle.log_file.proofs.Fed.{text_fault}
 use Rattle.merge_judge.specs.OpenedLog.{OpenedLog}
-use Rattle.merge_judge.specs.inner.Following.{Follows, TakesOne}
-use Rattle.merge_judge.proofs.Following.{ends_at, ends_whole, filled_more, next_is, no_record, not_read, one_fault, read_failed, read_few, read_more, read_none, refused_at}
+use Rattle.merge_judge.proofs.Following.{ends_at, ends_whole, filled_more, next_is, one_fault, read_failed, read_few, read_more, read_none, refused_at, takes_none}
 use Rattle.merge_judge.proofs.open_log.OpenLog.next.Goals as goal
 
 pub loop-logged-init : goal.loop-logged-init
@@ -41,40 +39,34 @@ returns-in_err-check_end-clause-next g c = λ core cores first records h.
     let p = err_from_is_err_and c.from_residual-in_err-check_end.result c.from_residual-in_err-check_end.ensures.1 in
     let rem = g.S.ByteSource.remaining in
     let f = c.in_ok-count.ensures.filled in
-    let takes : (bytes : List ℕ) (rs : List Record) → HasAnswered c.loop-logged.self.reader bytes rs → TakesOne bytes rs c.loop-logged.self (Ok None) c.take.new.self =
-    subst (λ o. (bytes : List ℕ) (rs : List Record) → HasAnswered c.loop-logged.self.reader bytes rs → TakesOne bytes rs c.loop-logged.self (Ok o) c.take.new.self) (no_record c.in_ok-logged.logged (sym c.is_some.ensures ∙ c.if-is_some.false)) c.in_ok-logged.ensures.taken in
+    let takes = takes_none c.loop-logged.self c.take.new.self c.in_ok-logged.logged (sym c.is_some.ensures ∙ c.if-is_some.false) c.in_ok-logged.ensures.taken in
     let on = filled_more core cores first (rem c.loop-logged.source) c.loop-logged.self c.fill.new.self records (c.loop-logged.invariant.follows core cores first records h) c.take.new.self (rem c.fill.new.source) c.take.ensures.core c.take.ensures.cores takes c.fill.ensures.reader f.1 in
-    let here : Follows core cores first (rem c.fill.new.source) (opened c.self.inside) records = subst (λ (s : OpenedLog). Follows core cores first (rem c.fill.new.source) s records) (sym c.self.view_is) on in
-    let none : (opened c.self.inside).unused ≡ [] = ap (λ (s : OpenedLog). s.unused) c.self.view_is ∙ nil_from_length c.fill.new.self.unused (f.0 ∙ c.if-count-eq0.true) in
-    rw (p.1, p.2) (ends_at core cores first (rem c.fill.new.source) (opened c.self.inside) records here (f.2 c.if-count-eq0.true) none c.in_err-check_end.field-0.0 c.in_err-check_end.ensures.ends)
+    let same = ap (λ (s : OpenedLog). s.reader) c.self.view_is in
+    rw (p.1, p.2) (ends_at core cores first (rem c.fill.new.source) c.fill.new.self records on (f.2 c.if-count-eq0.true) (nil_from_length c.fill.new.self.unused (f.0 ∙ c.if-count-eq0.true)) c.in_err-check_end.field-0.0 (rw same at c.in_err-check_end.ensures.ends))
 
 pub returns-in_err-check_end-clause-read : goal.returns-in_err-check_end-clause-read
 returns-in_err-check_end-clause-read g c = λ e.
     let p = err_from_is_err_and c.from_residual-in_err-check_end.result c.from_residual-in_err-check_end.ensures.1 in
-    let takes : (bytes : List ℕ) (rs : List Record) → HasAnswered c.loop-logged.self.reader bytes rs → TakesOne bytes rs c.loop-logged.self (Ok None) c.take.new.self =
-    subst (λ o. (bytes : List ℕ) (rs : List Record) → HasAnswered c.loop-logged.self.reader bytes rs → TakesOne bytes rs c.loop-logged.self (Ok o) c.take.new.self) (no_record c.in_ok-logged.logged (sym c.is_some.ensures ∙ c.if-is_some.false)) c.in_ok-logged.ensures.taken in
+    let takes = takes_none c.loop-logged.self c.take.new.self c.in_ok-logged.logged (sym c.is_some.ensures ∙ c.if-is_some.false) c.in_ok-logged.ensures.taken in
     let read = c.loop-logged.invariant.read in
     let bytes = read.bytes ++ c.loop-logged.self.unused in
     let answered : HasAnswered c.self.inside.reader bytes read.records =
     subst (λ (s : Answering). HasAnswered s bytes read.records) (sym (ap (λ (s : OpenedLog). s.reader) c.self.view_is ∙ c.fill.ensures.reader)) (takes read.bytes read.records read.answered).1 in
-    absurd (not_read c.self.inside.reader.core c.self.inside.reader.cores bytes c.in_err-check_end.field-0.0 (c.in_err-check_end.ensures.ends bytes read.records answered)
+    absurd ((text_fault c.self.inside.reader.core c.self.inside.reader.cores bytes c.in_err-check_end.field-0.0 (c.in_err-check_end.ensures.ends bytes read.records answered)).1
     (one_fault c.from_residual-in_err-check_end.result p.0 c.in_err-check_end.field-0.0 p.1 p.2 e))
 
 pub returns-then-count-eq0-clause-next : goal.returns-then-count-eq0-clause-next
 returns-then-count-eq0-clause-next g c = λ core cores first records h.
     let rem = g.S.ByteSource.remaining in
     let f = c.in_ok-count.ensures.filled in
-    let takes : (bytes : List ℕ) (rs : List Record) → HasAnswered c.loop-logged.self.reader bytes rs → TakesOne bytes rs c.loop-logged.self (Ok None) c.take.new.self =
-    subst (λ o. (bytes : List ℕ) (rs : List Record) → HasAnswered c.loop-logged.self.reader bytes rs → TakesOne bytes rs c.loop-logged.self (Ok o) c.take.new.self) (no_record c.in_ok-logged.logged (sym c.is_some.ensures ∙ c.if-is_some.false)) c.in_ok-logged.ensures.taken in
+    let takes = takes_none c.loop-logged.self c.take.new.self c.in_ok-logged.logged (sym c.is_some.ensures ∙ c.if-is_some.false) c.in_ok-logged.ensures.taken in
     let on = filled_more core cores first (rem c.loop-logged.source) c.loop-logged.self c.fill.new.self records (c.loop-logged.invariant.follows core cores first records h) c.take.new.self (rem c.fill.new.source) c.take.ensures.core c.take.ensures.cores takes c.fill.ensures.reader f.1 in
-    let here : Follows core cores first (rem c.fill.new.source) (opened c.self.inside) records = subst (λ (s : OpenedLog). Follows core cores first (rem c.fill.new.source) s records) (sym c.self.view_is) on in
-    let none : (opened c.self.inside).unused ≡ [] = ap (λ (s : OpenedLog). s.unused) c.self.view_is ∙ nil_from_length c.fill.new.self.unused (f.0 ∙ c.if-count-eq0.true) in
-    ends_whole core cores first (rem c.fill.new.source) (opened c.self.inside) records here (f.2 c.if-count-eq0.true) none c.in_ok-check_end.ensures.ends
+    let same = ap (λ (s : OpenedLog). s.reader) c.self.view_is in
+    ends_whole core cores first (rem c.fill.new.source) c.fill.new.self records on (f.2 c.if-count-eq0.true) (nil_from_length c.fill.new.self.unused (f.0 ∙ c.if-count-eq0.true)) (rw same at c.in_ok-check_end.ensures.ends)
 
 pub overflow_add-reads : goal.overflow_add-reads
 overflow_add-reads g c =
-    let takes : (bytes : List ℕ) (rs : List Record) → HasAnswered c.loop-logged.self.reader bytes rs → TakesOne bytes rs c.loop-logged.self (Ok None) c.take.new.self =
-    subst (λ o. (bytes : List ℕ) (rs : List Record) → HasAnswered c.loop-logged.self.reader bytes rs → TakesOne bytes rs c.loop-logged.self (Ok o) c.take.new.self) (no_record c.in_ok-logged.logged (sym c.is_some.ensures ∙ c.if-is_some.false)) c.in_ok-logged.ensures.taken in
+    let takes = takes_none c.loop-logged.self c.take.new.self c.in_ok-logged.logged (sym c.is_some.ensures ∙ c.if-is_some.false) c.in_ok-logged.ensures.taken in
     let few = read_few c.loop-logged.self c.take.new.self c.fill.new.self c.loop-logged.reads c.loop-logged.invariant.read takes in
     omega (arith, few)
 
@@ -83,8 +75,7 @@ loop-logged-preserved g c =
     let rem = g.S.ByteSource.remaining in
     let f = c.in_ok-count.ensures.filled in
     let inv = c.loop-logged.invariant in
-    let takes : (bytes : List ℕ) (rs : List Record) → HasAnswered c.loop-logged.self.reader bytes rs → TakesOne bytes rs c.loop-logged.self (Ok None) c.take.new.self =
-    subst (λ o. (bytes : List ℕ) (rs : List Record) → HasAnswered c.loop-logged.self.reader bytes rs → TakesOne bytes rs c.loop-logged.self (Ok o) c.take.new.self) (no_record c.in_ok-logged.logged (sym c.is_some.ensures ∙ c.if-is_some.false)) c.in_ok-logged.ensures.taken in
+    let takes = takes_none c.loop-logged.self c.take.new.self c.in_ok-logged.logged (sym c.is_some.ensures ∙ c.if-is_some.false) c.in_ok-logged.ensures.taken in
     record {
       core = search rules;
       cores = search rules;
