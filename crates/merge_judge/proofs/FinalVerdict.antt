@@ -68,10 +68,10 @@ no_count file (At line f) h = h
 no_count file OutOfMemory h = h
 no_count file Read h = h
 
-module _ {S : Type 0} (remaining : S → Option (List ℕ)) (failed : S → ℕ) (before after : List S) (lanes : List LaneParts) (numbers : List ℕ) (clean : Bool) (merged : List (List Record)) (done : List Entry)
+module _ {S : Type 0} {remaining : S → Option (List ℕ)} {failed : S → ℕ} {before after : List S} {lanes : List LaneParts} {numbers : List ℕ} {clean : Bool} {merged : List (List Record)} {done : List Entry}
     (m : IsMerged remaining failed before after lanes numbers clean merged done) (ended : AllEnded lanes) where
   given : (texts : List (List ℕ)) × (TellEach remaining before texts × AreBegun texts lanes merged)
-  given = begun_texts remaining failed before after lanes numbers clean merged done m
+  given = begun_texts m
 
   abbrev texts : List (List ℕ)
   texts = given.0
@@ -177,7 +177,7 @@ module _ {S : Type 0} (remaining : S → Option (List ℕ)) (failed : S → ℕ)
 
   -- none failed before the file that is told, and its own reader only where that is told
   quiet_at : (file : ℕ) (fault : LogFault) (l : LaneParts) → slice_get lanes file ≡ Some l → l.fault ≡ Some fault → NoneFaulty lanes file → IsQuietUpTo failed before after (Some (Err (from_set file fault)))
-  quiet_at file (At line f) l hl some none = quiet_to remaining failed before after lanes numbers clean merged done m (file + 1) (λ k x less hx read. elim (cases_lt k file) [
+  quiet_at file (At line f) l hl some none = quiet_to m (file + 1) (λ k x less hx read. elim (cases_lt k file) [
     | inl earlier ↦ (let sound = none k x earlier hx in cc)
     | inr here ↦ (let same : k ≡ file = omega (arith, less, here) in
         let is : l ≡ x = one (slice_get lanes file) l x hl (subst (λ n. slice_get lanes n ≡ Some x) same hx) in
@@ -185,11 +185,11 @@ module _ {S : Type 0} (remaining : S → Option (List ℕ)) (failed : S → ℕ)
         cc)
   ])
   quiet_at file OutOfMemory l hl some none = tt
-  quiet_at file Read l hl some none = quiet_to remaining failed before after lanes numbers clean merged done m file (λ k x less hx read. (let sound = none k x less hx in cc))
+  quiet_at file Read l hl some none = quiet_to m file (λ k x less hx read. (let sound = none k x less hx in cc))
 
   -- where no log has a fault
   quiet_whole : NoneFaulty lanes (length lanes) → NoneFailed failed before after
-  quiet_whole whole = quiet_all remaining failed before after lanes numbers clean merged done m (λ k l hl read. (let sound = whole k l (slice_get_within lanes k l hl) hl in cc))
+  quiet_whole whole = quiet_all m (λ k l hl read. (let sound = whole k l (slice_get_within lanes k l hl) hl in cc))
 
   only_read : (file other : ℕ) (fault : LogFault) → from_set file fault ≡ ReadFile other → (fault ≡ Read) × (file ≡ other)
   only_read file other (At line f) h = absurd cc

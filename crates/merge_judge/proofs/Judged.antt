@@ -83,10 +83,10 @@ pub look_fails : {S : Type 0} (remaining : S → Option (List ℕ)) (failed : S 
     → Appends old mid written → written ++ kept ≡ id_lines order → IsWritten mid new (kept ++ line_where on id) (Err f) kept_new → IsMergedBy remaining failed old new before after (Err (from_write f))
 look_fails remaining failed old mid new before after lanes numbers clean merged done written kept kept_new order on id f m steady shown appends lines w =
     let all : (written ++ w.0) ++ w.1.0 ≡ id_lines (order_where on order id) = joined written kept w.0 w.1.0 (line_where on id) (id_lines order) lines w.1.2 ∙ sym (lines_where on order id) in
-    let t = begun_texts remaining failed before after lanes numbers clean merged done m in
+    let t = begun_texts m in
     ends_early remaining failed old new before after (written ++ w.0) (appends_more old mid new written w.0 appends w.1.1) (lacks_end (written ++ w.0) w.1.0 (order_where on order id) all) t.0 t.1.0 f
     (inl (begins_order t.0 (Err (from_write f)) (order_where on order id) merged done lanes (written ++ w.0) w.1.0 shown t.1.1 all tt))
-    (quiet_write failed before after f (quiet_clean remaining failed before after lanes numbers clean merged done m steady))
+    (quiet_write failed before after f (quiet_clean m steady))
 
 -- a set without a verdict, and one with a No
 module _ {S : Type 0} (remaining : S → Option (List ℕ)) (failed : S → ℕ) (old new : Option (List ℕ)) (before after : List S) (lanes : List LaneParts) (merged : List (List Record)) (done : List Entry) (written kept : List ℕ) (order : List OpId)
@@ -169,7 +169,7 @@ module _ {S L : Type 0} (remaining : S → Option (List ℕ)) (failed : S → �
       ends_early remaining failed old new before after (written ++ w.0) (appends_more old mid new written w.0 appends w.1.1)
       (lacks_more (written ++ w.0) w.1.0 order all_is w.1.4) s.texts s.tells f
       (inr (merged, (s.clean.0, (subst IsYes s.clean.1 tt, (length (written ++ w.0), sym (front_of (written ++ w.0) w.1.0 (order_text order) all_is) ∙ ap (λ ids. take (length (written ++ w.0)) (order_text ids)) by_key_is)))))
-      (quiet_write failed before after f (quiet_clean remaining failed before after merge.lanes.items merge.fronts merge.clean merged done m steady))
+      (quiet_write failed before after f (quiet_clean m steady))
     where
       all_is : (written ++ w.0) ++ w.1.0 ≡ order_text order
       all_is = joined written kept w.0 w.1.0 (end_line count) (id_lines order) lines w.1.2 ∙ ap (λ n. id_lines order ++ end_line n) long

@@ -14,7 +14,9 @@ use Rattle.address_check.specs.declared.fault.AddressFault.{AddressFault}
 use Rattle.merge_judge.specs.declared.merge.Merge.{Merge}
 use Rattle.merge_judge.specs.OrderText.{LacksEnd, end_line, id_line, id_lines, order_text}
 use Rattle.merge_judge.specs.inner.Judging.{line_where}
+use Rattle.merge_judge.specs.inner.Lanes.{IsMerged}
 use Rattle.merge_judge.specs.inner.Merging.{HasMerged}
+use Rattle.merge_judge.specs.LaneParts.{LaneParts}
 use Rattle.merge_judge.specs.inner.Memory.{Holds, IsMemory, first_along}
 use Rattle.merge_judge.proofs.Added.{entries_few}
 use Rattle.merge_judge.proofs.Merged.{there}
@@ -39,12 +41,12 @@ pub record MergeSoFar {S L : Type 0} (remaining : S → Option (List ℕ)) (fail
 
 -- ---- how many records there are
 
-pub few_done : {S L : Type 0} (remaining : S → Option (List ℕ)) (failed : S → ℕ) (before after : List S) (merge : Merge L) (merged : List (List Record)) (done : List Entry) → HasMerged remaining failed before after merge merged done → length done ≤ 67108864
-few_done remaining failed before after merge merged done m =
+pub few_done : {S : Type 0} {remaining : S → Option (List ℕ)} {failed : S → ℕ} {before after : List S} {lanes : List LaneParts} {numbers : List ℕ} {clean : Bool} {merged : List (List Record)} {done : List Entry} → IsMerged remaining failed before after lanes numbers clean merged done → length done ≤ 67108864
+few_done {S} {remaining} {failed} {before} {after} {lanes} {numbers} {clean} {merged} {done} m =
     let few = entries_few 0 1048576 merged (λ k w.
     let b = there before k (omega (arith, w, m.logs)) in
     let a = there after k (omega (arith, w, m.logs, m.readers)) in
-    let l = there merge.lanes.items k (omega (arith, w, m.logs, m.many)) in
+    let l = there lanes k (omega (arith, w, m.logs, m.many)) in
     (m.lane k b.0 a.0 l.0 b.1 a.1 l.1).few) in
     omega (arith, few, m.total, m.logs, m.few)
 

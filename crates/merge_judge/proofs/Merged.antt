@@ -1,5 +1,5 @@
 -- A merge, one record further.
-use Rattle.std.specs.Prelude.{◌≡◌, ℕ, zero, suc, ◌+◌, ◌*◌, ◌<◌, ◌≤◌, ◌⊎◌, Bool, true, false, List, [], ◌∷◌, ◌++◌, refl, Option, Some, None, length, slice_get, slice_set, slice_index}
+use Rattle.std.specs.Prelude.{◌≡◌, ℕ, zero, suc, ◌+◌, ◌*◌, ◌<◌, ◌≤◌, ◌⊎◌, Bool, true, false, List, [], ◌∷◌, ◌++◌, refl, Option, Some, None, get_or, length, slice_get, slice_set, slice_index}
 use Rattle.std.proofs.Common.{sym, ◌∙◌, ap, subst, inl, inr, arith, length-set}
 use Rattle.std.specs.declared.cmp.Ordering.{Ordering}
 use Rattle.std.specs.declared.cmp.Ordering.TheVariants.{Less, Equal, Greater}
@@ -8,7 +8,7 @@ use Rattle.std.proofs.lemmas.Bool.{false_from_ne_true, cases_eq}
 use Rattle.std.proofs.lemmas.Map.Lookups.{exact_unsigned}
 use Rattle.std.proofs.lemmas.List.{get_or-set_same, get_or-set_other, length_push}
 use Rattle.core_program.specs.Least.{IsLeastWhere}
-use Rattle.std.proofs.lemmas.Option.{slice_get_within}
+use Rattle.std.proofs.lemmas.Option.{slice_get_read, slice_get_within}
 use Rattle.line_stamps.specs.Ordered.{In}
 use Rattle.line_stamps.proofs.Order.{lt_cases, lt_trans}
 use Rattle.line_stamps.proofs.Ordered.{In-append, In-from_sorted}
@@ -106,17 +106,13 @@ there (x ∷ xs) (suc n) l = there xs n (omega arith)
 pub one : {X : Type 0} (o : Option X) (a b : X) → o ≡ Some a → o ≡ Some b → a ≡ b
 one o a b p q = cc
 
-pub taken_there : (lanes : List LaneParts) (core : ℕ) (lane lane_new : LaneParts) (r : Record) → slice_get lanes core ≡ Some lane → lane.front ≡ Some r → IsTaken core r lanes (slice_set lanes core lane_new)
-taken_there lanes core lane lane_new r lane_is front_is = record {
-  many = length-set lanes core lane_new;
-  front = (lane, lane_is, front_is);
-  others = λ k other. set_elsewhere lanes core k lane_new other;
-}
-
 -- ---- the merge
 
-module _ {S : Type 0} (remaining : S → Option (List ℕ)) (failed : S → ℕ) (before after : List S) (lanes : List LaneParts) (numbers : List ℕ) (clean : Bool) (merged : List (List Record)) (done : List Entry)
-    (m : IsMerged remaining failed before after lanes numbers clean merged done) (core : ℕ) (inside : core < length numbers) (least : IsLeastAt numbers core) (lane : LaneParts) (lane_is : slice_get lanes core ≡ Some lane) where
+module _ {S : Type 0} {remaining : S → Option (List ℕ)} {failed : S → ℕ} {before after : List S} {lanes : List LaneParts} {numbers : List ℕ} {clean : Bool} {merged : List (List Record)} {done : List Entry}
+    (m : IsMerged remaining failed before after lanes numbers clean merged done) (core : ℕ) (inside : core < length numbers) (least : IsLeastAt numbers core) (lane : LaneParts) (value : lane ≡ get_or lanes core lane) where
+  lane_is : slice_get lanes core ≡ Some lane
+  lane_is = slice_get_read lanes (length lanes) core lane refl (omega (arith, m.many, m.fronts, inside)) value
+
   -- where the least front is none, all logs have ended
   pub all_ended : lane.front ≡ None → AllEnded lanes
   all_ended none k l h = go l.front refl
@@ -155,6 +151,13 @@ module _ {S : Type 0} (remaining : S → Option (List ℕ)) (failed : S → ℕ)
 
     pub count_is : lane.merged ≡ length (log_at merged core)
     count_is = lane_now.count
+
+    pub taken_there : (lane_new : LaneParts) → IsTaken core r lanes (slice_set lanes core lane_new)
+    taken_there lane_new = record {
+      many = length-set lanes core lane_new;
+      front = (lane, lane_is, front_is);
+      others = λ k other. set_elsewhere lanes core k lane_new other;
+    }
 
     module _ (source source_new : S) (source_is : slice_get after core ≡ Some source) (lane_new : LaneParts) (n : ℕ) (clean_new : Bool)
         (advanced : (c cs : ℕ) (b : S) (rs : List Record) (f : Record) → lane.front ≡ Some f → IsLaneAt remaining failed c cs b source lane rs → IsLaneAt remaining failed c cs b source_new lane_new (rs ++ f ∷ []))

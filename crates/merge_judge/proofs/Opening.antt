@@ -38,7 +38,7 @@ opened_none remaining failed readers = record {
 }
 
 -- one more
-module _ {S : Type 0} (remaining : S → Option (List ℕ)) (failed : S → ℕ) (before after : List S) (n : ℕ) (lanes : List LaneParts) (numbers : List ℕ) (clean : Bool) (h : Opened remaining failed before after n lanes numbers clean)
+module _ {S : Type 0} {remaining : S → Option (List ℕ)} {failed : S → ℕ} {before after : List S} {n : ℕ} {lanes : List LaneParts} {numbers : List ℕ} {clean : Bool} (h : Opened remaining failed before after n lanes numbers clean)
     (source source_new : S) (source_is : slice_get after n ≡ Some source) (lane : LaneParts) (number : ℕ) (clean_new : Bool)
     (at : IsLaneAt remaining failed n (length before) source source_new lane []) (number_is : IsFrontNumber n lane.front number) (found : clean_new ≡ false → (clean ≡ false) ⊎ IsFaulty lane)
     (kept : clean_new ≡ true → (clean ≡ true) × (lane.falls ≡ None) × (lane.fault ≡ None)) where
@@ -90,9 +90,9 @@ none_there zero k = refl
 none_there (suc n) zero = refl
 none_there (suc n) (suc k) = none_there n k
 
-pub all_opened : {S : Type 0} (remaining : S → Option (List ℕ)) (failed : S → ℕ) (before after : List S) (n : ℕ) (lanes : List LaneParts) (numbers : List ℕ) (clean : Bool) → Opened remaining failed before after n lanes numbers clean
+pub all_opened : {S : Type 0} {remaining : S → Option (List ℕ)} {failed : S → ℕ} {before after : List S} {n : ℕ} {lanes : List LaneParts} {numbers : List ℕ} {clean : Bool} → Opened remaining failed before after n lanes numbers clean
     → n ≡ length before → 0 < length before → length before ≤ 64 → IsMerged remaining failed before after lanes numbers clean (replicate (length before) []) []
-all_opened remaining failed before after n lanes numbers clean h all some few = record {
+all_opened {S} {remaining} {failed} {before} {after} {n} {lanes} {numbers} {clean} h all some few = record {
   readers = h.readers;
   many = h.many ∙ all;
   logs = length-replicate (length before) [];

@@ -31,7 +31,7 @@ same_counts failed (b ∷ old) (a ∷ new) (suc n) long same =
     let rest : map failed (take n new) ≡ map failed (take n old) = same_counts failed old new n (omega (arith, long)) (λ k x y l p q. same (suc k) x y (omega arith) p q) in
     cc
 
-module _ {S : Type 0} (remaining : S → Option (List ℕ)) (failed : S → ℕ) (before after : List S) (lanes : List LaneParts) (numbers : List ℕ) (clean : Bool) (merged : List (List Record)) (done : List Entry)
+module _ {S : Type 0} {remaining : S → Option (List ℕ)} {failed : S → ℕ} {before after : List S} {lanes : List LaneParts} {numbers : List ℕ} {clean : Bool} {merged : List (List Record)} {done : List Entry}
     (m : IsMerged remaining failed before after lanes numbers clean merged done) where
   -- the readers of the first n files, none of whose logs has a failed read
   pub quiet_to : (n : ℕ) → ((k : ℕ) (l : LaneParts) → k < n → slice_get lanes k ≡ Some l → l.fault ≡ Some Read → ⊥) → NoneFailedOf n failed before after

@@ -148,7 +148,7 @@ module _ (order : List OpId) (merged : List (List Record)) (done : List Entry) (
     next = next_still;
   }
 
-module _ {S : Type 0} (remaining : S → Option (List ℕ)) (failed : S → ℕ) (before after : List S) (lanes : List LaneParts) (numbers : List ℕ) where
+module _ {S : Type 0} {remaining : S → Option (List ℕ)} {failed : S → ℕ} {before after : List S} {lanes : List LaneParts} {numbers : List ℕ} where
   shown_now : (merged : List (List Record)) (done : List Entry) (order : List OpId) → IsMerged remaining failed before after lanes numbers true merged done → None ≡ first_along [] done → order ≡ ids done → IsShown order merged done lanes
   shown_now merged done order m none is = record {
     logs = merged;

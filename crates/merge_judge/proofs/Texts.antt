@@ -53,9 +53,9 @@ begun_stage core cores first still log merged None None h =
 begun_stage core cores first still log merged None (Some f) h =
     (h.text, (h.tells, (subst (λ rs. BeginsLog core cores h.text rs) (sym (append-nil merged)) h.begins, (λ none sound. absurd cc), λ g found. let same : f ≡ g = cc in subst (λ x. IsFaultOrDevice core cores h.text x) same h.holds)))
 
-pub begun_texts : {S : Type 0} (remaining : S → Option (List ℕ)) (failed : S → ℕ) (before after : List S) (lanes : List LaneParts) (numbers : List ℕ) (clean : Bool) (merged : List (List Record)) (done : List Entry)
+pub begun_texts : {S : Type 0} {remaining : S → Option (List ℕ)} {failed : S → ℕ} {before after : List S} {lanes : List LaneParts} {numbers : List ℕ} {clean : Bool} {merged : List (List Record)} {done : List Entry}
     → IsMerged remaining failed before after lanes numbers clean merged done → (texts : List (List ℕ)) × (TellEach remaining before texts × AreBegun texts lanes merged)
-begun_texts {S} remaining failed before after lanes numbers clean merged done m = (
+begun_texts {S} {remaining} {failed} {before} {after} {lanes} {numbers} {clean} {merged} {done} m = (
   all.0,
   (
     tell_each remaining before all.0 all.1.0 (λ k b h. (all.1.1 k b h).0),

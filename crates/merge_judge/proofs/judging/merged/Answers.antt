@@ -49,14 +49,12 @@ loop-entry-init g c = record {
 pub overflow_add-count : goal.overflow_add-count
 overflow_add-count g c =
     let s = c.loop-entry.invariant in
-    let few = few_done g.S.RecordSource.remaining g.S.RecordSource.failed c.args.readers.now c.loop-entry.readers c.loop-entry.merge s.merged s.done s.is_merged in
-    omega (arith, few, s.counted)
+    omega (arith, few_done s.is_merged, s.counted)
 
 pub loop-entry-smaller : goal.loop-entry-smaller
 loop-entry-smaller g c =
     let s = c.loop-entry.invariant in
-    let few = few_done g.S.RecordSource.remaining g.S.RecordSource.failed c.args.readers.now c.loop-entry.readers c.loop-entry.merge s.merged s.done s.is_merged in
-    omega (arith, few, s.counted)
+    omega (arith, few_done s.is_merged, s.counted)
 
 pub loop-entry-preserved : goal.loop-entry-preserved
 loop-entry-preserved g c =
@@ -80,7 +78,7 @@ loop-entry-preserved g c =
       appends = appends_more (g.W.ByteSink.contents c.args.order_out.now) (g.W.ByteSink.contents c.loop-entry.order_out) (g.W.ByteSink.contents c.look.new.order_out) s.written w.0 s.appends w.1.1;
       order = order_where yes s.order e.id;
       lines = ap (λ xs. (s.written ++ w.0) ++ xs) (sym w.1.3) ∙ joined s.written (g.O.Order.kept c.loop-entry.order) w.0 w.1.0 (line_where yes e.id) (id_lines s.order) s.lines w.1.2 ∙ sym (lines_where yes s.order e.id);
-      shown = shown_more g.S.RecordSource.remaining g.S.RecordSource.failed c.args.readers.now c.take_first.new.readers c.take_first.new.self.lanes.items c.take_first.new.self.fronts s.merged s.done s.order e c.look.new.fault c.take_first.new.self.clean c.loop-entry.merge.lanes.items c.in-Some.ensures.taken s.shown merged first all;
+      shown = shown_more s.merged s.done s.order e c.look.new.fault c.take_first.new.self.clean c.loop-entry.merge.lanes.items c.in-Some.ensures.taken s.shown merged first all;
       all = all;
       quiet = l.failures.1 (λ x. cc) ∙ s.quiet;
     }
@@ -95,7 +93,7 @@ returns-in_err-look-clause-exact g c =
     let merged = c.in-Some.ensures.merged c.args.readers.now s.merged s.done s.is_merged in
     let first = l.fault s.done s.holds ∙ ap (λ o. option_or o (fault_after s.done e)) s.first ∙ sym (first_along-push [] s.done e) in
     let all = all_where c.loop-entry.fault c.look.new.fault (fault_after s.done e) new.clean c.loop-entry.merge.clean s.order s.done e (l.fault s.done s.holds) c.in-Some.ensures.clean s.all in
-    let shown = shown_more g.S.RecordSource.remaining g.S.RecordSource.failed c.args.readers.now c.take_first.new.readers new.lanes.items new.fronts s.merged s.done s.order e c.look.new.fault new.clean c.loop-entry.merge.lanes.items c.in-Some.ensures.taken s.shown merged first all in
+    let shown = shown_more s.merged s.done s.order e c.look.new.fault new.clean c.loop-entry.merge.lanes.items c.in-Some.ensures.taken s.shown merged first all in
     rw (p.1, p.2) (look_fails g.S.RecordSource.remaining g.S.RecordSource.failed (g.W.ByteSink.contents c.args.order_out.now) (g.W.ByteSink.contents c.loop-entry.order_out) (g.W.ByteSink.contents c.look.new.order_out) c.args.readers.now c.take_first.new.readers
     new.lanes.items new.fronts new.clean (add s.merged e.id.core e.logged) (s.done ++ e ∷ []) s.written (g.O.Order.kept c.loop-entry.order) (g.O.Order.kept c.look.new.order) s.order (is_none c.look.new.fault && new.clean) e.id c.in_err-look.field-0.0 merged (l.unwritten refl) shown s.appends s.lines l.written)
 

@@ -32,7 +32,7 @@ loop-core-preserved g c =
       | then-clean w ↦ (w.if-clean.true, w.is_clean-clean.ensures.steady (sym w.clean-is ∙ h), w.is_clean-clean.ensures.whole (sym w.clean-is ∙ h))
       | else-clean w ↦ absurd (let a : loop.clean ≡ true = sym w.clean-is ∙ h in let b : loop.clean ≡ false = w.if-clean.false in cc)
     ]) in
-    let more = opened_more g.S.RecordSource.remaining g.S.RecordSource.failed c.args.readers.now readers core loop.lanes.items loop.numbers.items loop.clean inv.opened source c.new.new.source source_is lane c.front_number.result c.if-clean.clean at (subst (λ (o : Option Record). IsFrontNumber core o c.front_number.result) c.front.ensures c.front_number.ensures) found kept in
+    let more = opened_more inv.opened source c.new.new.source source_is lane c.front_number.result c.if-clean.clean at (subst (λ (o : Option Record). IsFrontNumber core o c.front_number.result) c.front.ensures c.front_number.ensures) found kept in
     record {
       opened = rw (c.in_ok-push-2.ensures.items, c.in_ok-push.ensures.items) more;
       cores = refl;
@@ -47,4 +47,4 @@ new-requires-2-clause-few g c = omega (arith, c.loop-core.numbers.ok.0, c.loop-c
 pub returns : goal.returns
 returns g c =
     let loop = c.loop-core in
-    rw c.in_ok-fronts.ensures (all_opened g.S.RecordSource.remaining g.S.RecordSource.failed c.args.readers.now loop.readers loop.core loop.lanes.items loop.numbers.items loop.clean loop.invariant.opened (omega (arith, c.loop-core-test.false, loop.auto.core-end)) c.requires.some c.requires.few)
+    rw c.in_ok-fronts.ensures (all_opened loop.invariant.opened (omega (arith, c.loop-core-test.false, loop.auto.core-end)) c.requires.some c.requires.few)
