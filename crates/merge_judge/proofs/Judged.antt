@@ -1,5 +1,5 @@
 -- What a merge answers that ends before its verdict.
-use Rattle.std.specs.Prelude.{◌≡◌, ℕ, List, [], ◌++◌, refl, Option, Result, Ok, Err, IfSome, map, take, ◌⊎◌, Bool, true, false, length}
+use Rattle.std.specs.Prelude.{◌≡◌, ℕ, List, [], ◌++◌, refl, Option, None, Result, Ok, Err, IfSome, map, take, ◌⊎◌, Bool, true, false, length}
 use Rattle.std.proofs.Common.{sym, ◌∙◌, ap, append-nil, inl, inr, subst}
 use Rattle.log_file.specs.declared.device_fault.WriteFault.{WriteFault}
 use Rattle.log_file.specs.declared.device_fault.WriteFault.TheVariants.{OutOfMemory as NoMemory, Write as WriteFailed}
@@ -32,10 +32,11 @@ use Rattle.verdict.specs.FaultParts.{FaultParts}
 use Rattle.verdict.proofs.Bridge.{yes_is_sequential}
 use Rattle.merge_judge.specs.LaneParts.{LaneParts}
 use Rattle.merge_judge.specs.declared.merge.Merge.{Merge}
-use Rattle.merge_judge.specs.inner.Merging.{HasMerged}
+use Rattle.mem_op.specs.declared.id.Source.{Source}
+use Rattle.address_check.specs.declared.fault.AddressFault.{AddressFault}
 use Rattle.merge_judge.specs.inner.FinalVerdict.{IsFinalVerdict}
 use Rattle.merge_judge.specs.inner.Writing.{IsWritten}
-use Rattle.merge_judge.proofs.MergeSoFar.{front_of, joined, lacks_end, lacks_more, lines_where}
+use Rattle.merge_judge.proofs.MergeSoFar.{MergeSoFar, front_of, joined, lacks_end, lacks_more, lines_where}
 use Rattle.merge_judge.proofs.Quiet.{quiet_clean, quiet_write}
 use Rattle.merge_judge.proofs.Shown.{IsShown, ids, order_where}
 use Rattle.merge_judge.proofs.Stopped.{before_fault, begins_order, none_begins}
@@ -88,91 +89,102 @@ look_fails remaining failed old mid new before after lanes numbers clean merged 
     (inl (begins_order t.0 (Err (from_write f)) (order_where on order id) merged done lanes (written ++ w.0) w.1.0 shown t.1.1 all tt))
     (quiet_write failed before after f (quiet_clean m steady))
 
--- a set without a verdict, and one with a No
-module _ {S : Type 0} (remaining : S → Option (List ℕ)) (failed : S → ℕ) (old new : Option (List ℕ)) (before after : List S) (lanes : List LaneParts) (merged : List (List Record)) (done : List Entry) (written kept : List ℕ) (order : List OpId)
-    (shown : IsShown order merged done lanes) (appends : Appends old new written) (lines : written ++ kept ≡ id_lines order) where
-  pub merged_fault : (fault : JudgeFault) → (IsBadCount fault → ⊥) → IsFinalVerdict remaining failed before after lanes merged (Err fault) → IsMergedBy remaining failed old new before after (Err (Judge fault))
-  merged_fault fault counts s = record {
-    texts = s.texts;
-    tells = s.tells;
-    answers = s.answers;
-    written = written;
-    appends = appends;
-    writes = lacks_end written kept order lines;
-    stops = go fault counts;
-    read = λ file h. s.failed_at file (let e : fault ≡ Read file = cc in e);
-    quiet = s.quiet;
+-- ---- all logs have ended
+
+module _ {S L : Type 0} {remaining : S → Option (List ℕ)} {failed : S → ℕ} {old mid : Option (List ℕ)} {failed_before failed_now : ℕ} {before after_was after : List S} {merge : Merge L} {values : List ℕ} {sources : List Source} {kept : List ℕ} {fault : Option AddressFault} {count : ℕ} {lanes : List LaneParts} {numbers : List ℕ} {clean : Bool}
+    (s : MergeSoFar remaining failed old mid failed_before failed_now before after_was merge values sources kept fault count)
+    (m : IsMerged remaining failed before after lanes numbers clean s.merged s.done) (same : lanes ≡ merge.lanes.items) where
+  shown : IsShown s.order s.merged s.done lanes
+  shown = subst (λ ls. IsShown s.order s.merged s.done ls) (sym same) s.shown
+
+  -- a set without a verdict
+  pub merged_fault : (found : JudgeFault) → (IsBadCount found → ⊥) → IsFinalVerdict remaining failed before after lanes s.merged (Err found) → IsMergedBy remaining failed old mid before after (Err (Judge found))
+  merged_fault found counts f = record {
+    texts = f.texts;
+    tells = f.tells;
+    answers = f.answers;
+    written = s.written;
+    appends = s.appends;
+    writes = lacks_end s.written kept s.order s.lines;
+    stops = go found counts;
+    read = λ file h. f.failed_at file (let e : found ≡ Read file = cc in e);
+    quiet = f.quiet;
   }
     where
-      go : (f : JudgeFault) → (IsBadCount f → ⊥) → StopsBefore s.texts (Err (Judge f)) written
+      begins : (x : JudgeFault) → BeginsOrder f.texts (Err (Judge x)) s.written
+      begins x = begins_order f.texts (Err (Judge x)) s.order s.merged s.done lanes s.written kept shown f.begun s.lines tt
+
+      go : (x : JudgeFault) → (IsBadCount x → ⊥) → StopsBefore f.texts (Err (Judge x)) s.written
       go (BadConfig count) h = absurd (h tt)
-      go (Log file line f) h = begins_order s.texts (Err (Judge (Log file line f))) order merged done lanes written kept shown s.begun lines tt
-      go (Read file) h = begins_order s.texts (Err (Judge (Read file))) order merged done lanes written kept shown s.begun lines tt
-      go OutOfMemory h = inl (begins_order s.texts (Err (Judge OutOfMemory)) order merged done lanes written kept shown s.begun lines tt)
+      go (Log file line g) h = begins (Log file line g)
+      go (Read file) h = begins (Read file)
+      go OutOfMemory h = inl (begins OutOfMemory)
 
-  pub merged_no : (fault : FaultParts) → (NoFalls lanes → done ≡ by_key merged) → IsFinalVerdict remaining failed before after lanes merged (Ok (No fault)) → IsMergedBy remaining failed old new before after (Ok (No fault))
-  merged_no fault by_key_is s = record {
-    texts = s.texts;
-    tells = s.tells;
-    answers = s.answers;
-    written = written;
-    appends = appends;
-    writes = lacks_end written kept order lines;
-    stops = begins_order s.texts (Ok (No fault)) order merged done lanes written kept shown s.begun lines (before_fault order merged done lanes shown s.texts fault by_key_is s.clean.0 s.clean.1);
+  -- a set with a No
+  pub merged_no : (found : FaultParts) → IsFinalVerdict remaining failed before after lanes s.merged (Ok (No found)) → IsMergedBy remaining failed old mid before after (Ok (No found))
+  merged_no found f = record {
+    texts = f.texts;
+    tells = f.tells;
+    answers = f.answers;
+    written = s.written;
+    appends = s.appends;
+    writes = lacks_end s.written kept s.order s.lines;
+    stops = begins_order f.texts (Ok (No found)) s.order s.merged s.done lanes s.written kept shown f.begun s.lines (before_fault s.order s.merged s.done lanes shown f.texts found m.by_key_so_far f.clean.0 f.clean.1);
     read = tt;
-    quiet = s.quiet;
+    quiet = f.quiet;
   }
 
--- a Yes: all records were merged without a fault, and their order is written
-module _ {S L : Type 0} (remaining : S → Option (List ℕ)) (failed : S → ℕ) (old mid new : Option (List ℕ)) (before after : List S) (merge : Merge L) (merged : List (List Record)) (done : List Entry) (written kept kept_new : List ℕ) (order : List OpId) (count : ℕ)
-    (m : HasMerged remaining failed before after merge merged done) (appends : Appends old mid written) (lines : written ++ kept ≡ id_lines order)
-    (s : IsFinalVerdict remaining failed before after merge.lanes.items merged (Ok (Yes count))) (counted : count ≡ length done) (all : merge.clean ≡ true → order ≡ ids done) where
-  steady : merge.clean ≡ true
-  steady = go merge.clean refl
-    where
-      go : (b : Bool) → merge.clean ≡ b → merge.clean ≡ true
-      go true e = e
-      go false e = absurd (let t = m.faulty e in let u = s.clean.2 t.0 t.1.0 t.1.1 in
-          elim t.1.2 [ inl f ↦ f u.0 | inr f ↦ f u.1 ])
+  -- a Yes: all records were merged without a fault, and their order is written
+  module _ (n : ℕ) (f : IsFinalVerdict remaining failed before after lanes s.merged (Ok (Yes n))) (counted : n ≡ count) (sound : fault ≡ None) (still : clean ≡ true → merge.clean ≡ true) where
+    steady : clean ≡ true
+    steady = go clean refl
+      where
+        go : (b : Bool) → clean ≡ b → clean ≡ true
+        go true e = e
+        go false e = absurd (let t = m.faulty e in let u = f.clean.2 t.0 t.1.0 t.1.1 in
+            elim t.1.2 [ inl h ↦ h u.0 | inr h ↦ h u.1 ])
 
-  by_key_is : order ≡ ids_by_key merged
-  by_key_is = all steady ∙ ap ids (m.by_key_so_far (λ k l h. (s.clean.2 k l h).0))
+    order_is : s.order ≡ ids s.done
+    order_is = s.all sound (still steady)
 
-  long : count ≡ length order
-  long = counted ∙ sym (ap length (all steady) ∙ length-map done (λ (e : Entry). e.id))
+    by_key_is : s.order ≡ ids_by_key s.merged
+    by_key_is = order_is ∙ ap ids (m.by_key_so_far (λ k l h. (f.clean.2 k l h).0))
 
-  pub merged_yes : IsWritten {E = WriteFault} mid new (kept ++ end_line count) (Ok tt) kept_new → kept_new ≡ [] → IsMergedBy remaining failed old new before after (Ok (Yes count))
-  merged_yes w none = record {
-    texts = s.texts;
-    tells = s.tells;
-    answers = s.answers;
-    written = written ++ w.0;
-    appends = appends_more old mid new written w.0 appends w.1.1;
-    writes = (
-      merged,
-      (
-        s.clean.0,
+    all_is : (part rest : List ℕ) → part ++ rest ≡ kept ++ end_line n → (s.written ++ part) ++ rest ≡ order_text s.order
+    all_is part rest is =
+        joined s.written kept part rest (end_line n) (id_lines s.order) s.lines is
+        ∙ ap (λ k. id_lines s.order ++ end_line k) (counted ∙ s.counted ∙ sym (ap length order_is ∙ length-map s.done (λ (e : Entry). e.id)))
+
+    pub merged_yes : (new : Option (List ℕ)) → IsWritten {E = WriteFault} mid new (kept ++ end_line n) (Ok tt) [] → IsMergedBy remaining failed old new before after (Ok (Yes n))
+    merged_yes new w = record {
+      texts = f.texts;
+      tells = f.tells;
+      answers = f.answers;
+      written = s.written ++ w.0;
+      appends = appends_more old mid new s.written w.0 s.appends w.1.1;
+      writes = (
+        s.merged,
         (
-          order,
-          subst (λ xs. IsSequentialOrder (operations_of merged) xs) (sym by_key_is) (yes_is_sequential merged count (sym s.clean.1)),
-          sym (append-nil (written ++ w.0)) ∙ ap (λ xs. (written ++ w.0) ++ xs) (sym (w.1.3 ∙ none)) ∙ joined written kept w.0 w.1.0 (end_line count) (id_lines order) lines w.1.2 ∙ ap (λ n. id_lines order ++ end_line n) long,
+          f.clean.0,
+          (
+            s.order,
+            subst (λ xs. IsSequentialOrder (operations_of s.merged) xs) (sym by_key_is) (yes_is_sequential s.merged n (sym f.clean.1)),
+            sym (append-nil (s.written ++ w.0)) ∙ ap (λ xs. (s.written ++ w.0) ++ xs) (sym w.1.3) ∙ all_is w.0 w.1.0 w.1.2,
+          ),
         ),
-      ),
-    );
-    stops = tt;
-    read = tt;
-    quiet = s.quiet;
-  }
+      );
+      stops = tt;
+      read = tt;
+      quiet = f.quiet;
+    }
 
-  pub end_fails : (f : WriteFault) → IsWritten mid new (kept ++ end_line count) (Err f) kept_new → IsMergedBy remaining failed old new before after (Err (from_write f))
-  end_fails f w =
-      ends_early remaining failed old new before after (written ++ w.0) (appends_more old mid new written w.0 appends w.1.1)
-      (lacks_more (written ++ w.0) w.1.0 order all_is w.1.4) s.texts s.tells f
-      (inr (merged, (s.clean.0, (subst IsYes s.clean.1 tt, (length (written ++ w.0), sym (front_of (written ++ w.0) w.1.0 (order_text order) all_is) ∙ ap (λ ids. take (length (written ++ w.0)) (order_text ids)) by_key_is)))))
-      (quiet_write failed before after f (quiet_clean m steady))
-    where
-      all_is : (written ++ w.0) ++ w.1.0 ≡ order_text order
-      all_is = joined written kept w.0 w.1.0 (end_line count) (id_lines order) lines w.1.2 ∙ ap (λ n. id_lines order ++ end_line n) long
+    pub end_fails : (new : Option (List ℕ)) (x : WriteFault) → IsWritten mid new (kept ++ end_line n) (Err x) [] → IsMergedBy remaining failed old new before after (Err (from_write x))
+    end_fails new x w =
+        let all = all_is w.0 w.1.0 w.1.2 in
+        ends_early remaining failed old new before after (s.written ++ w.0) (appends_more old mid new s.written w.0 s.appends w.1.1)
+        (lacks_more (s.written ++ w.0) w.1.0 s.order all w.1.4) f.texts f.tells x
+        (inr (s.merged, (f.clean.0, (subst IsYes f.clean.1 tt, (length (s.written ++ w.0), sym (front_of (s.written ++ w.0) w.1.0 (order_text s.order) all) ∙ ap (λ ids. take (length (s.written ++ w.0)) (order_text ids)) by_key_is)))))
+        (quiet_write failed before after x (quiet_clean m steady))
 
 -- a bad count is no failed read
 pub bad_no_read : (f : JudgeFault) (file : ℕ) → IsBadCount f → Judge f ≡ Judge (Read file) → ⊥

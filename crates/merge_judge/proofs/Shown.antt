@@ -200,7 +200,3 @@ module _ {S : Type 0} {remaining : S → Option (List ℕ)} {failed : S → ℕ}
   shown_more merged done order e None true old taken h m first all = shown_now (add merged e.id.core e.logged) (done ++ e ∷ []) (order ++ e.id ∷ []) m first (all refl refl)
   shown_more merged done order e None false old taken h m first all = shown_still order merged done e old lanes taken (in_merged merged done e false old taken m) h
   shown_more merged done order e (Some f) clean old taken h m first all = shown_still order merged done e old lanes taken (in_merged merged done e clean old taken m) h
-
--- where no front was left
-pub shown_after : (order : List OpId) (merged : List (List Record)) (done : List Entry) (old new : List LaneParts) → new ≡ old → IsShown order merged done old → IsShown order merged done new
-shown_after order merged done old new same h = subst (λ lanes. IsShown order merged done lanes) (sym same) h

@@ -8,13 +8,12 @@ use Rattle.log_file.specs.Devices.{Failed}
 use Rattle.log_file.proofs.Devices.{appends_more}
 use Rattle.merge_judge.specs.inner.Lanes.{add}
 use Rattle.merge_judge.specs.inner.Judging.{line_where}
-use Rattle.merge_judge.specs.inner.FinalVerdict.{IsFinalVerdict}
 use Rattle.merge_judge.specs.inner.Memory.{fault_after}
 use Rattle.merge_judge.specs.OrderText.{id_lines}
 use Rattle.merge_judge.proofs.Along.{first_along-push}
 use Rattle.merge_judge.proofs.Judged.{end_fails, look_fails, no_memory, merged_fault, merged_no, merged_yes, write_failed, wrote}
 use Rattle.merge_judge.proofs.MergeSoFar.{all_where, few_done, joined, lines_where}
-use Rattle.merge_judge.proofs.Shown.{order_where, shown_after, shown_more, shown_none}
+use Rattle.merge_judge.proofs.Shown.{order_where, shown_more, shown_none}
 use Rattle.merge_judge.proofs.WritingFacts.{appends_none}
 use Rattle.merge_judge.proofs.judging.merged.Goals as goal
 
@@ -102,38 +101,34 @@ returns-in_err-fault-clause-exact g c =
     let p = err_from_is_err_and c.from_residual-in_err-fault.result c.from_residual-in_err-fault.ensures.1 in
     let s = c.loop-entry.invariant in
     let t = c.in_default.ensures.merged c.args.readers.now s.merged s.done s.is_merged in
-    let st = c.final_verdict.ensures.answer c.args.readers.now s.merged s.done t.1 (λ steady. s.first) s.counted in
-    rw (p.1, p.2) (merged_fault g.S.RecordSource.remaining g.S.RecordSource.failed (g.W.ByteSink.contents c.args.order_out.now) (g.W.ByteSink.contents c.loop-entry.order_out) c.args.readers.now c.take_first.new.readers c.take_first.new.self.lanes.items s.merged s.done
-    s.written (g.O.Order.kept c.loop-entry.order) s.order (shown_after s.order s.merged s.done _ _ c.in_default.ensures.taken s.shown) s.appends s.lines c.in_err-fault.field-0.0 c.in_err-fault.ensures.fault (subst (λ r. IsFinalVerdict g.S.RecordSource.remaining g.S.RecordSource.failed c.args.readers.now c.take_first.new.readers c.take_first.new.self.lanes.items s.merged r) c.in_err-fault.was st))
+    let final = c.final_verdict.ensures.answer c.args.readers.now s.merged s.done t.1 (λ steady. s.first) s.counted in
+    rw (p.1, p.2) (merged_fault s t.1 c.in_default.ensures.taken c.in_err-fault.field-0.0 c.in_err-fault.ensures.fault (rw c.in_err-fault.was at final))
 
 pub returns-in-No-clause-exact : goal.returns-in-No-clause-exact
 returns-in-No-clause-exact g c =
     let s = c.loop-entry.invariant in
     let t = c.in_default.ensures.merged c.args.readers.now s.merged s.done s.is_merged in
-    let st = c.final_verdict.ensures.answer c.args.readers.now s.merged s.done t.1 (λ steady. s.first) s.counted in
-    merged_no g.S.RecordSource.remaining g.S.RecordSource.failed (g.W.ByteSink.contents c.args.order_out.now) (g.W.ByteSink.contents c.loop-entry.order_out) c.args.readers.now c.take_first.new.readers c.take_first.new.self.lanes.items s.merged s.done
-    s.written (g.O.Order.kept c.loop-entry.order) s.order (shown_after s.order s.merged s.done _ _ c.in_default.ensures.taken s.shown) s.appends s.lines c.in-No.fault t.1.by_key_so_far (subst (λ r. IsFinalVerdict g.S.RecordSource.remaining g.S.RecordSource.failed c.args.readers.now c.take_first.new.readers c.take_first.new.self.lanes.items s.merged r) (c.in_ok-fault.was ∙ ap (λ v. Ok v) c.in-No.is) st)
+    let final = c.final_verdict.ensures.answer c.args.readers.now s.merged s.done t.1 (λ steady. s.first) s.counted in
+    merged_no s t.1 c.in_default.ensures.taken c.in-No.fault (rw (c.in_ok-fault.was ∙ ap (λ v. Ok v) c.in-No.is) at final)
 
 pub returns-in_err-end-in-Yes-clause-exact : goal.returns-in_err-end-in-Yes-clause-exact
 returns-in_err-end-in-Yes-clause-exact g c =
     let p = err_from_is_err_and c.from_residual-in_err-end-in-Yes.result c.from_residual-in_err-end-in-Yes.ensures.1 in
     let s = c.loop-entry.invariant in
     let t = c.in_default.ensures.merged c.args.readers.now s.merged s.done s.is_merged in
-    let st = c.final_verdict.ensures.answer c.args.readers.now s.merged s.done t.1 (λ steady. s.first) s.counted in
+    let final = c.final_verdict.ensures.answer c.args.readers.now s.merged s.done t.1 (λ steady. s.first) s.counted in
     let is = c.in_ok-fault.was ∙ ap (λ v. Ok v) c.in-Yes.is in
     let yes = c.final_verdict.ensures.yes c.in-Yes.count is in
-    rw (p.1, p.2) (end_fails g.S.RecordSource.remaining g.S.RecordSource.failed (g.W.ByteSink.contents c.args.order_out.now) (g.W.ByteSink.contents c.loop-entry.order_out) (g.W.ByteSink.contents c.end.new.out) c.args.readers.now c.take_first.new.readers c.take_first.new.self s.merged s.done
-    s.written (g.O.Order.kept c.loop-entry.order) [] s.order c.in-Yes.count t.1 s.appends s.lines (subst (λ r. IsFinalVerdict g.S.RecordSource.remaining g.S.RecordSource.failed c.args.readers.now c.take_first.new.readers c.take_first.new.self.lanes.items s.merged r) is st) (yes.1 ∙ s.counted) (λ clean. s.all yes.0 (c.in_default.ensures.clean clean)) c.in_err-end-in-Yes.field-0.0 c.in_err-end-in-Yes.ensures.written)
+    rw (p.1, p.2) (end_fails s t.1 c.in_default.ensures.taken c.in-Yes.count (rw is at final) yes.1 yes.0 c.in_default.ensures.clean (g.W.ByteSink.contents c.end.new.out) c.in_err-end-in-Yes.field-0.0 c.in_err-end-in-Yes.ensures.written)
 
 pub returns-in_ok-end-in-Yes-clause-exact : goal.returns-in_ok-end-in-Yes-clause-exact
 returns-in_ok-end-in-Yes-clause-exact g c =
     let s = c.loop-entry.invariant in
     let t = c.in_default.ensures.merged c.args.readers.now s.merged s.done s.is_merged in
-    let st = c.final_verdict.ensures.answer c.args.readers.now s.merged s.done t.1 (λ steady. s.first) s.counted in
+    let final = c.final_verdict.ensures.answer c.args.readers.now s.merged s.done t.1 (λ steady. s.first) s.counted in
     let is = c.in_ok-fault.was ∙ ap (λ v. Ok v) c.in-Yes.is in
     let yes = c.final_verdict.ensures.yes c.in-Yes.count is in
-    merged_yes g.S.RecordSource.remaining g.S.RecordSource.failed (g.W.ByteSink.contents c.args.order_out.now) (g.W.ByteSink.contents c.loop-entry.order_out) (g.W.ByteSink.contents c.end.new.out) c.args.readers.now c.take_first.new.readers c.take_first.new.self s.merged s.done
-    s.written (g.O.Order.kept c.loop-entry.order) [] s.order c.in-Yes.count t.1 s.appends s.lines (subst (λ r. IsFinalVerdict g.S.RecordSource.remaining g.S.RecordSource.failed c.args.readers.now c.take_first.new.readers c.take_first.new.self.lanes.items s.merged r) is st) (yes.1 ∙ s.counted) (λ clean. s.all yes.0 (c.in_default.ensures.clean clean)) c.in_ok-end-in-Yes.ensures.written refl
+    merged_yes s t.1 c.in_default.ensures.taken c.in-Yes.count (rw is at final) yes.1 yes.0 c.in_default.ensures.clean (g.W.ByteSink.contents c.end.new.out) c.in_ok-end-in-Yes.ensures.written
 
 pub returns-in_err-look-clause-failures : goal.returns-in_err-look-clause-failures
 returns-in_err-look-clause-failures g c =
