@@ -26,7 +26,6 @@ use Rattle.log_file.specs.Answers.{IsFaultOrDevice}
 use Rattle.log_file.specs.Log.{Spells}
 use Rattle.log_file.specs.Sets.{NoneFailed, SpellBefore, SpellFrom, SpellSet, TellEach, text_at, ReaderFailed}
 use Rattle.verdict.proofs.ProgramOrder.{less_index}
-use Rattle.verdict.specs.Counts.{IsBadCount}
 use Rattle.verdict.specs.Judgement.{IsAnswerTo}
 use Rattle.verdict.specs.SetFaults.{from_set}
 use Rattle.merge_judge.specs.LaneParts.{LaneParts}
@@ -62,11 +61,6 @@ pub least_core : (logs : List (List Record)) (o : Option RuleFault) → IsLeastI
 least_core logs o h =
     one_least core_fault_cmp core_fault_total (order_faults logs) (order_faults logs) o (least_core_fault logs)
     (λ a b p q tied. tied_core_faults a b tied) (λ f p. p) (λ f p. p) h (least_is core_fault_cmp core_fault_total (order_faults logs))
-
-pub no_count : (file : ℕ) (fault : LogFault) → IsBadCount (from_set file fault) → ⊥
-no_count file (At line f) h = h
-no_count file OutOfMemory h = h
-no_count file Read h = h
 
 module _ {S : Type 0} {remaining : S → Option (List ℕ)} {failed : S → ℕ} {before after : List S} {lanes : List LaneParts} {numbers : List ℕ} {clean : Bool} {merged : List (List Record)} {done : List Entry}
     (m : IsMerged remaining failed before after lanes numbers clean merged done) (ended : AllEnded lanes) where

@@ -7,9 +7,9 @@ use Rattle.verdict.specs.declared.judge_fault.JudgeFault.{JudgeFault}
 use Rattle.verdict.specs.declared.judge_fault.JudgeFault.TheVariants.{BadConfig, Log, OutOfMemory, Read}
 use Rattle.log_file.specs.Sets.{TellEach}
 use Rattle.verdict.specs.Judgement.{IsAnswerTo, IsYes}
-use Rattle.verdict.specs.ByKey.{by_key, ids_by_key}
+use Rattle.verdict.specs.ByKey.{ids_by_key}
 use Rattle.merge_judge.specs.Begun.{BeginsOrder, BeginsWhole, StopsBefore}
-use Rattle.merge_judge.specs.inner.Lanes.{IsMerged, NoFalls}
+use Rattle.merge_judge.specs.inner.Lanes.{IsMerged}
 use Rattle.verdict.proofs.Told.{each_tells, told}
 use Rattle.std.specs.Io.KnownBytes.{Appends}
 use Rattle.merge_judge.specs.Answer.{IsQuietUpTo, judged}
@@ -186,11 +186,7 @@ module _ {S L : Type 0} {remaining : S → Option (List ℕ)} {failed : S → �
         (inr (s.merged, (f.clean.0, (subst IsYes f.clean.1 tt, (length (s.written ++ w.0), sym (front_of (s.written ++ w.0) w.1.0 (order_text s.order) all) ∙ ap (λ ids. take (length (s.written ++ w.0)) (order_text ids)) by_key_is)))))
         (quiet_write failed before after x (quiet_clean m steady))
 
--- a bad count is no failed read
-pub bad_no_read : (f : JudgeFault) (file : ℕ) → IsBadCount f → Judge f ≡ Judge (Read file) → ⊥
-bad_no_read f file bad h = let e : f ≡ Read file = cc in subst IsBadCount e bad
-
--- after it nothing was written
+-- after a bad count nothing was written
 pub nothing_after : (texts : List (List ℕ)) (f : JudgeFault) → IsBadCount f → StopsBefore texts (Err (Judge f)) []
 nothing_after texts (BadConfig count) bad = refl
 nothing_after texts (Log file line f) bad = absurd bad

@@ -76,8 +76,3 @@ module _ {S : Type 0} (remaining : S → Option (List ℕ)) (failed : S → ℕ)
 
       same : failed old ≡ failed before
       same = at.quiet (λ h. let none : lane.fault ≡ None = stage.0 in cc)
-
--- a log that has fallen stays so
-pub known_falls : (known : Option ℕ) (at : ℕ) (earlier later : Option Record) → first_to_fall known at earlier later ≡ None → known ≡ None
-known_falls None at earlier later h = refl
-known_falls (Some i) at earlier later h = cc

@@ -9,9 +9,6 @@ use Rattle.log_file.specs.declared.device_fault.WriteFault.{WriteFault}
 use Rattle.log_file.specs.declared.device_fault.WriteFault.TheVariants.{OutOfMemory as NoMemory, Write as WriteFailed}
 use Rattle.log_file.specs.declared.fault.LogFault.TheVariants.{Read}
 use Rattle.log_file.specs.Sets.{NoneFailed}
-use Rattle.verdict.specs.Counts.{IsBadCount}
-use Rattle.verdict.specs.declared.judge_fault.JudgeFault.{JudgeFault}
-use Rattle.verdict.specs.declared.judge_fault.JudgeFault.TheVariants.{BadConfig, Log, OutOfMemory, Read as ReadFile}
 use Rattle.merge_judge.specs.Answer.{IsQuietUpTo, NoneFailedOf, judged}
 use Rattle.merge_judge.specs.LaneParts.{LaneParts}
 use Rattle.merge_judge.specs.WriteFaults.{from_write}
@@ -53,13 +50,6 @@ module _ {S : Type 0} {remaining : S → Option (List ℕ)} {failed : S → ℕ}
   quiet_clean steady = quiet_all (λ k l hl read. (let none = m.whole steady k l hl in cc))
 
 module _ {S : Type 0} (failed : S → ℕ) where
-  -- where nothing is read
-  pub quiet_unread : (readers : List S) (f : JudgeFault) → IsBadCount f → IsQuietUpTo failed readers readers (Some (Err f))
-  quiet_unread readers (BadConfig count) bad = refl
-  quiet_unread readers (Log file line f) bad = absurd bad
-  quiet_unread readers OutOfMemory bad = absurd bad
-  quiet_unread readers (ReadFile file) bad = absurd bad
-
   -- a write that is refused
   pub quiet_write : (before after : List S) (f : WriteFault) → NoneFailed failed before after → IsQuietUpTo failed before after (judged (Err (from_write f)))
   quiet_write before after NoMemory none = tt

@@ -143,13 +143,7 @@ impl<L: Reading> Lane<L> {
         ensures steady { result ≡ true → self.now.falls ≡ None }
         ensures whole { result ≡ true → self.now.fault ≡ None }
     {
-        match self.falls {
-            Some(_) => false,
-            None => match self.fault {
-                Some(_) => false,
-                None => true,
-            },
-        }
+        self.falls.is_none() && self.fault.is_none()
     }
 
     /// Merges the front, and reads the next record.

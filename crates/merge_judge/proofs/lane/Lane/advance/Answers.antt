@@ -1,13 +1,9 @@
 -- One record further, or the end of the log.
-use Rattle.std.proofs.Common.{◌≡◌, ◌+◌, Some, ap, subst, sym, ◌∙◌}
-use Rattle.log_file.specs.Answering.{IsFaultless}
+use Rattle.std.proofs.Common.{◌≡◌, Some, subst, sym}
 use Rattle.merge_judge.specs.inner.Lanes.{IsLaneAt}
 use Rattle.merge_judge.specs.LaneParts.{LaneParts}
-use Rattle.merge_judge.proofs.LaneFacts.{further, known_falls}
+use Rattle.merge_judge.proofs.LaneFacts.{further}
 use Rattle.merge_judge.proofs.lane.Lane.advance.Goals as goal
-
-pub read-next-requires : goal.read-next-requires
-read-next-requires g c = subst (λ (l : LaneParts). IsFaultless l.log.log.reader) (sym c.self.view_is) c.requires.faultless
 
 pub returns-clause-advanced : goal.returns-clause-advanced
 returns-clause-advanced g c = λ core cores before merged front front_is at.
@@ -18,8 +14,3 @@ returns-clause-advanced g c = λ core cores before merged front front_is at.
     further rem failed core cores before c.args.source.now c.read-next.new.source (g.L.Reading.kept c.read-next.new.log) c.read-next.result.0 c.read-next.result.1 c.read-next.ensures.read c.read-next.ensures.quiet was merged front c.first_to_fall-self-inside.result
     (subst (λ (l : LaneParts). l.front ≡ Some front) (sym c.self.view_is) front_is)
     (subst (λ (l : LaneParts). IsLaneAt rem failed core cores before c.args.source.now l merged) (sym c.self.view_is) at) (c.read-next.ensures.stage core cores) c.first_to_fall-self-inside.ensures
-
-pub returns-clause-falls : goal.returns-clause-falls
-returns-clause-falls g c = λ none.
-    let a = c.self.inside in
-    ap (λ (l : LaneParts). l.falls) (sym c.self.view_is) ∙ known_falls a.falls (a.merged + 1) a.front c.read-next.result.0 (sym c.first_to_fall-self-inside.ensures ∙ none)

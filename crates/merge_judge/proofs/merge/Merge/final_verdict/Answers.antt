@@ -1,11 +1,10 @@
 -- The fault of a log, a fall, a fault along the order of keys, or Yes.
 use Rattle.std.proofs.Common.{List, Ok, Err, length, sym, subst}
-use Rattle.verdict.specs.Counts.{IsBadCount}
 use Rattle.verdict.specs.declared.answer.Verdict.TheVariants.{No}
 use Rattle.verdict.specs.declared.rule.Rule.TheVariants.{CoreOrder}
 use Rattle.merge_judge.specs.LaneParts.{LaneParts}
 use Rattle.merge_judge.specs.inner.FinalVerdict.{IsFirstFall, IsFirstFaulty, NoneFaulty, NoneFalls, IsFinalVerdict}
-use Rattle.merge_judge.proofs.FinalVerdict.{fall_within, no_count, final_address, final_fall, final_fault, final_yes}
+use Rattle.merge_judge.proofs.FinalVerdict.{fall_within, final_address, final_fall, final_fault, final_yes}
 use Rattle.merge_judge.proofs.merge.Merge.final_verdict.Goals as goal
 
 pub returns-in-Some-clause-answer : goal.returns-in-Some-clause-answer
@@ -44,6 +43,3 @@ returns-in-None-clause-answer g c = λ before merged done m first counted.
     let whole = subst (λ (ls : List LaneParts). NoneFaulty ls (length ls)) c.deref.ensures.value c.in_default.ensures in
     let none = subst (λ (ls : List LaneParts). NoneFalls ls (length ls)) c.deref-2.ensures.value c.in_default-first_fall.ensures in
     final_yes m c.requires.ended none whole c.args.address first c.args.count counted c.in-None.is
-
-pub returns-in-Some-clause-fault : goal.returns-in-Some-clause-fault
-returns-in-Some-clause-fault g c = subst (λ f. IsBadCount f → ⊥) (sym c.from.ensures) (no_count c.in-Some.found.file c.in-Some.found.fault)

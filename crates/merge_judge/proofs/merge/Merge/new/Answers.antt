@@ -38,12 +38,6 @@ loop-core-preserved g c =
       cores = refl;
     }
 
-pub new-requires-2-clause-some : goal.new-requires-2-clause-some
-new-requires-2-clause-some g c = omega (arith, c.loop-core.numbers.ok.0, c.loop-core.invariant.opened.fronts, c.loop-core-test.false, c.requires.some)
-
-pub new-requires-2-clause-few : goal.new-requires-2-clause-few
-new-requires-2-clause-few g c = omega (arith, c.loop-core.numbers.ok.0, c.loop-core.invariant.opened.fronts, c.loop-core.auto.core-end, c.requires.few)
-
 pub returns : goal.returns
 returns g c =
     let loop = c.loop-core in

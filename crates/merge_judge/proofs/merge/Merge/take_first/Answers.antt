@@ -1,11 +1,10 @@
 -- The least front is taken.
-use Rattle.std.proofs.Common.{◌≡◌, ℕ, Some, length, arith, refl, sym, subst, ap, ◌∙◌, ◌⊎◌, inl, inr}
-use Rattle.std.specs.Prelude.{◌<◌, Option, get_or, slice_get, slice_set, false, true, None}
+use Rattle.std.proofs.Common.{◌≡◌, Some, length, arith, refl, sym, subst, ap, ◌∙◌, ◌⊎◌, inl, inr}
+use Rattle.std.specs.Prelude.{Option, get_or, slice_get, slice_set, false, true, None}
 use Rattle.std.proofs.lemmas.List.{set-get_or}
 use Rattle.std.proofs.lemmas.Option.{slice_get_read}
 use Rattle.log_record.specs.declared.record.Record.{Record}
-use Rattle.mem_op.specs.Limits.{operation_limit}
-use Rattle.merge_judge.specs.inner.Lanes.{AllEnded, IsFaulty, IsFrontNumber, IsMerged, entry_at, log_at}
+use Rattle.merge_judge.specs.inner.Lanes.{IsFaulty, IsFrontNumber, entry_at, log_at}
 use Rattle.merge_judge.proofs.Merged.{all_ended, count_is, faultless, merged_more, room, taken_there}
 use Rattle.merge_judge.proofs.merge.Merge.take_first.Goals as goal
 use Rattle.merge_judge.proofs.merge.Merge.take_first.Goals.{then-self, else-self}

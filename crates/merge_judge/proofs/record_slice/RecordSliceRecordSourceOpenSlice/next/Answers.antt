@@ -30,11 +30,6 @@ to_record-requires g c =
     let there = slice_get-map g.T.Recorded.recorded a.records.now a.given ∙ ap (option_map g.T.Recorded.recorded) (sym c.item_at.ensures.item ∙ c.in-Some.is) in
     among (FitsIn Two) (map g.T.Recorded.recorded a.records.now) a.given (g.T.Recorded.recorded c.in-Some.item) c.log.invariant.0.of_log.fit there
 
-pub overflow_add-log : goal.overflow_add-log
-overflow_add-log g c =
-    let a = c.log.inside in
-    omega (arith, c.log.invariant.1, c.log.invariant.0.of_log.few, length-map a.records.now g.T.Recorded.recorded)
-
 pub returns-clause-next : goal.returns-clause-next
 returns-clause-next g c = λ core cores first answered h.
     let s = c.args.self.now in
