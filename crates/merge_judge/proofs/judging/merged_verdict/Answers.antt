@@ -1,10 +1,24 @@
 -- What is merged is answered; and where the number of files is out of range, nothing is read.
-use Rattle.std.proofs.Common.{map}
+use Rattle.std.proofs.Common.{Err, map, subst}
+use Rattle.std.specs.Prelude.{IfSome}
 use Rattle.std.proofs.lemmas.Result.{err_from_is_err_and}
+use Rattle.verdict.specs.Judgement.{IsAnswerTo}
 use Rattle.verdict.specs.VerdictOf.{verdict_of}
 use Rattle.verdict.proofs.Soundness.{bad_count_answers}
 use Rattle.verdict.proofs.Told.{each_tells, told}
+use Rattle.merge_judge.specs.Answer.{IsQuietUpTo, judged}
+use Rattle.merge_judge.specs.declared.merge_fault.MergeFault.{MergeFault}
 use Rattle.merge_judge.proofs.judging.merged_verdict.Goals as goal
+
+pub returns-in-Ok-clause-exact : goal.returns-in-Ok-clause-exact
+returns-in-Ok-clause-exact g c =
+    let b = c.in-Ok.ensures.exact in
+    (b.texts, b.tells, b.answers)
+
+pub returns-in-Err-Judge-clause-exact : goal.returns-in-Err-Judge-clause-exact
+returns-in-Err-Judge-clause-exact g c =
+    let b = c.in-Err-Judge.ensures.exact in
+    (b.texts, b.tells, subst (λ (e : MergeFault). IfSome (judged (Err e)) (IsAnswerTo b.texts)) c.in-Err-Judge.field-0-is b.answers)
 
 pub returns-in_err-check_counts-clause-exact : goal.returns-in_err-check_counts-clause-exact
 returns-in_err-check_counts-clause-exact g c =
@@ -13,3 +27,10 @@ returns-in_err-check_counts-clause-exact g c =
     let bad = c.in_err-check_counts.ensures.err in
     let texts = map (λ reader. told (g.S.ByteSource.remaining reader)) c.args.readers.now in
     rw (p.1, p.2) (texts, each_tells g.S.ByteSource.remaining c.args.readers.now, bad_count_answers verdict_of texts fault bad)
+
+pub returns-in-Ok-clause-quiet : goal.returns-in-Ok-clause-quiet
+returns-in-Ok-clause-quiet g c = c.in-Ok.ensures.exact.quiet
+
+pub returns-in-Err-Judge-clause-quiet : goal.returns-in-Err-Judge-clause-quiet
+returns-in-Err-Judge-clause-quiet g c =
+    subst (λ (e : MergeFault). IsQuietUpTo g.S.ByteSource.failed c.args.readers.now c.merged.new.readers (judged (Err e))) c.in-Err-Judge.field-0-is c.in-Err-Judge.ensures.exact.quiet
