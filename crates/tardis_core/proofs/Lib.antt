@@ -3,6 +3,7 @@ pub mod Judged
 pub mod Kept
 pub mod Nexts
 pub mod RoundRuns
+pub mod Seating
 pub mod Stages
 pub mod Takes
 pub mod Works

@@ -4,3 +4,4 @@ pub mod Picks
 pub mod RoundFaults
 pub mod Rounds
 pub mod RunFaults
+pub mod inner

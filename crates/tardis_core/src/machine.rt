@@ -1,10 +1,9 @@
 //! The core machine.
 
-ghost use Rattle.std.specs.Prelude.{◌≡◌, option_and_then, option_map, slice_get};
+ghost use Rattle.std.specs.Prelude.{◌≡◌, map, option_and_then, option_map, slice_get};
 ghost use Rattle.std.specs.Option.{option_copied};
 ghost use Rattle.core_machine.specs.Parts.{IsMachine, IsReached};
 
-use super::seat::Seat;
 use core_machine::Event;
 use core_unit::CoreUnit;
 use lease_rule::Config;
@@ -17,23 +16,26 @@ use std::marker::Model;
 #[derive(Drop)]
 pub(crate) struct Machine {
     pub(crate) config: Config,
-    pub(crate) seats: Vec<Seat>,
+    pub(crate) units: Vec<CoreUnit>,
+    /// At index c the reply that core c hasn't taken yet, if there is one.
+    pub(crate) kept: Vec<Option<Reply>>,
     pub(crate) slices: Vec<ManagerSlice>,
 }
 
 impl Model for Machine {
     ghost use Rattle.std.specs.Coded.{codes};
-    ghost use Rattle.tardis_core.specs.contracts.seat.Seat as seat;
+    ghost use Rattle.core_unit.specs.contracts.unit.CoreUnit as core;
     ghost use Rattle.manager_slice.specs.contracts.slice.ManagerSlice as slice;
-    ghost use Rattle.core_machine.specs.Parts.{CoreParts, IsMachine};
+    ghost use Rattle.core_machine.specs.Parts.{CoreParts};
+    ghost use Rattle.tardis_core.specs.inner.Seating.{IsSeated, parts};
 
     ghost Value = { CoreParts };
 
-    ghost coded = { Prim.hlevel (codes, seat.the_row.coded, slice.the_row.coded) };
+    ghost coded = { Prim.hlevel (codes, core.the_row.coded, slice.the_row.coded) };
 
-    ghost view = { λ m. record { config = m.config; seats = m.seats.items; slices = m.slices.items } };
+    ghost view = { λ m. parts m.config m.units.items m.kept.items m.slices.items };
 
-    ghost invariant = { λ m. IsMachine (record { config = m.config; seats = m.seats.items; slices = m.slices.items }) };
+    ghost invariant = { λ m. IsSeated m.config m.units.items m.kept.items m.slices.items };
 }
 
 impl Machine {
@@ -76,19 +78,34 @@ impl Core {
         &self.machine.config
     }
 
+    /// The units, core 0's first.
+    pub fn units(&self) -> &[CoreUnit]
+        ensures { result.now ≡ map (λ s. s.unit) self.now.seats }
+    {
+        let machine = &self.machine;
+        machine.units.as_slice()
+    }
+
     /// A core, if it is there.
     pub fn unit(&self, core: CoreId) -> Option<&CoreUnit>
         ensures { option_copied result ≡ option_map (λ s. s.unit) (slice_get self.now.seats core) }
     {
-        let seat = self.machine.seats.get(core.get() as usize)?;
-        Some(&seat.unit)
+        self.units().get(core.get() as usize)
+    }
+
+    /// The slices, number 0 first.
+    pub fn slices(&self) -> &[ManagerSlice]
+        ensures { result.now ≡ self.now.slices }
+    {
+        let machine = &self.machine;
+        machine.slices.as_slice()
     }
 
     /// A slice, if it is there.
     pub fn slice(&self, number: usize) -> Option<&ManagerSlice>
         ensures { option_copied result ≡ slice_get self.now.slices number }
     {
-        self.machine.slices.get(number)
+        self.slices().get(number)
     }
 
     /// Does nothing: its contract says that some list of events leads to this machine from the
@@ -103,7 +120,8 @@ impl Core {
     pub fn kept(&self, core: CoreId) -> Option<&Reply>
         ensures { option_copied result ≡ option_and_then (λ s. s.kept) (slice_get self.now.seats core) }
     {
-        let seat = self.machine.seats.get(core.get() as usize)?;
-        seat.kept.as_ref()
+        let machine = &self.machine;
+        let kept = machine.kept.get(core.get() as usize)?;
+        kept.as_ref()
     }
 }

@@ -1,20 +1,19 @@
 //! The machine at its start.
 
-ghost use Rattle.std.specs.Prelude.{◌≡◌, true, IfOk, IfErr, map, vec_len};
+ghost use Rattle.std.specs.Prelude.{◌≡◌, true, IfOk, IfErr};
 ghost use Rattle.core_machine.specs.Machine.{opening};
-ghost use Rattle.core_machine.specs.Opening.{new_seat, new_units, opening_parts};
+ghost use Rattle.core_machine.specs.Opening.{new_units, opening_parts};
 ghost use Rattle.core_machine.specs.Parts.{world};
 ghost use Rattle.core_machine.specs.Steps.{is_memory};
 
 use super::machine::{Core, Machine};
-use super::seat::Seat;
 use core_machine::CoreFault;
 use core_program::ProgramSet;
 use core_unit::CoreUnit;
 use lease_rule::Config;
 use manager_slice::new_slices;
 use mem_op::CoreId;
-use std::alloc::{AllocError, Global};
+use std::alloc::Global;
 
 impl Core {
     /// The machine with each core at the start of its program and all slices empty. Only 10
@@ -57,11 +56,13 @@ impl Machine {
         ensures refused { IfErr result (λ fault. is_memory fault ≡ true) }
     {
         let units = opening_units(alloc, programs, config)?;
-        let seats = seats_of(alloc, units)?;
+        let mut kept = Vec::new(alloc);
+        kept.resize(units.len(), None)?;
         let slices = new_slices(alloc, config)?;
         Ok(Machine {
             config: *config,
-            seats,
+            units,
+            kept,
             slices,
         })
     }
@@ -85,16 +86,4 @@ pub fn opening_units(
         units.push_reserved(opened);
     }
     Ok(units)
-}
-
-// Each of these units in its seat.
-fn seats_of(alloc: Global, units: Vec<CoreUnit>) -> Result<Vec<Seat>, AllocError>
-    ensures { IfOk result (λ seats. seats.items ≡ map new_seat units.items) }
-{
-    let mut seats = Vec::new(alloc);
-    for unit in units {
-        seats.reserve(1)?;
-        seats.push_reserved(Seat { unit, kept: None });
-    }
-    Ok(seats)
 }

@@ -10,6 +10,7 @@ ghost use Rattle.machine_laws.specs.Refusals.{is_protocol_fault};
 
 use super::keeping::keep;
 use super::machine::{Core, Machine};
+use super::seat::{asking, perform};
 use core_machine::{CoreFault, Event};
 use core_unit::Outcome;
 use machine_laws::refusals::never_refused;
@@ -94,11 +95,13 @@ impl Machine {
         ensures outcome { OutcomeLeads (alone self.old core event.now) result self.old self.new }
         ensures leads { MachineLeads event.now self.old result self.new }
     {
-        let Machine { seats, .. } = self;
-        let Some(seat) = seats.get_mut(core.get() as usize) else {
+        let Machine { units, kept, .. } = self;
+        let at = core.get() as usize;
+        let Some(kept) = kept.get_mut(at) else {
             return Ok(Outcome::NoEffect);
         };
-        Ok(seat.step(event)?)
+        let unit = &mut units[at];
+        Ok(perform(unit, kept, event)?)
     }
 
     // A slice serves the core's message in hand.
@@ -109,19 +112,21 @@ impl Machine {
     {
         let Machine {
             config,
-            seats,
+            units,
+            kept,
             slices,
-            ..
         } = self;
-        let Some(seat) = seats.get_mut(core.get() as usize) else {
+        let at = core.get() as usize;
+        let Some(kept) = kept.get_mut(at) else {
             return Ok(Outcome::NoEffect);
         };
-        let Some(message) = seat.asking() else {
+        let unit = &units[at];
+        let Some(message) = asking(unit, kept) else {
             return Ok(Outcome::NoEffect);
         };
         let slice = &mut slices[config.slice_of(message.addr())];
         let reply = &slice.handle(core, message)?;
-        seat.kept = Some(*reply);
+        *kept = Some(*reply);
         Ok(Outcome::Served(*reply))
     }
 
