@@ -10,9 +10,11 @@ use super::place::Output;
 use super::putting::put_under;
 use super::refusal::Refusal;
 use super::writing::{LogsOfCores, write_logs};
+use core_unit::CoreUnit;
 use host_files::Folder;
 use log_record::Format;
-use statistics::{RunParts, counts_of_cores, counts_of_slices, print_statistics};
+use manager_slice::ManagerSlice;
+use statistics::{counts_of_cores, counts_of_slices, print_statistics};
 use std::alloc::{AllocError, Global};
 
 /// Where a run leaves what, and how much of it there is.
@@ -31,31 +33,30 @@ pub(crate) struct Leaving<'a> {
 }
 
 /// The text of the numbers of so many cores and slices.
-fn numbers_of<R: RunParts>(
+fn numbers_of(
     alloc: Global,
-    of: &R,
+    units: &[CoreUnit],
+    managers: &[ManagerSlice],
     cores: usize,
     slices: usize,
 ) -> Result<Vec<u8>, AllocError>
-    requires { cores ≤ 64 }
-    ensures { IfOk result (λ text.
-        text.items ≡ numbers.numbers_of cores slices (R.units of.now) (R.slices of.now)) }
+    ensures { IfOk result (λ text. text.items ≡ numbers.numbers_of cores slices units.now managers.now) }
 {
-    let of_cores = counts_of_cores(alloc, of, cores)?;
-    let of_slices = counts_of_slices(alloc, of, slices)?;
+    let of_cores = counts_of_cores(alloc, units, cores)?;
+    let of_slices = counts_of_slices(alloc, managers, slices)?;
     print_statistics(alloc, of_cores.as_slice(), of_slices.as_slice())
 }
 
 /// Puts the numbers of a run under the name that is given for them, if one is: 29 if that fails, 10.
-fn put_numbers<F: Folder, R: RunParts>(
+fn put_numbers<F: Folder>(
     alloc: Global,
     folder: &mut F,
     leaving: &Leaving<'_>,
-    of: &R,
+    units: &[CoreUnit],
+    managers: &[ManagerSlice],
 ) -> Result<(), Refusal>
-    requires { leaving.now.cores ≤ 64 }
     ensures ok { OnOk result (PutsAt (F.files folder.old) (F.files folder.new) leaving.now.statistics
-        (numbers.numbers_of leaving.now.cores leaving.now.slices (R.units of.now) (R.slices of.now))) }
+        (numbers.numbers_of leaving.now.cores leaving.now.slices units.now managers.now)) }
     ensures err { IfErr result (numbers.IsUnput (F.files folder.old) (F.files folder.new) leaving.now.statistics) }
     ensures others { KeepsFiles (F.files folder.old).told (F.files folder.new).told
         (IsNameOf leaving.now.statistics) }
@@ -63,7 +64,7 @@ fn put_numbers<F: Folder, R: RunParts>(
     let Some(name) = leaving.statistics else {
         return Ok(());
     };
-    let Ok(text) = numbers_of(alloc, of, leaving.cores, leaving.slices) else {
+    let Ok(text) = numbers_of(alloc, units, managers, leaving.cores, leaving.slices) else {
         return Err(Refusal::OutOfMemory);
     };
     put_under(folder, Some(name), text.as_slice(), Output::Statistics)
@@ -71,22 +72,24 @@ fn put_numbers<F: Folder, R: RunParts>(
 
 /// Writes the log of each core, and then the numbers of the run if a file is given for them. How many operations were performed.
 /// What can't be written ends it: 29 if a put fails, and 10 if a growth was refused.
-pub(crate) fn leave<F: Folder, R: RunParts + LogsOfCores>(
+pub(crate) fn leave<F: Folder, L: LogsOfCores>(
     alloc: Global,
     folder: &mut F,
     leaving: &Leaving<'_>,
-    of: &R,
+    of: &L,
+    units: &[CoreUnit],
+    managers: &[ManagerSlice],
 ) -> Result<u64, Refusal>
     requires { leaving.now.cores ≤ 64 }
-    ensures ok { IfOk result (λ count. count ≡ logs.performed_below (R.made of.now) leaving.now.cores) }
+    ensures ok { IfOk result (λ count. count ≡ logs.performed_below (L.made of.now) leaving.now.cores) }
     ensures left { OnOk result (numbers.AreLeft leaving.now.format (F.files folder.old) (F.files folder.new) leaving.now.out.now
-        leaving.now.cores (R.made of.now) leaving.now.statistics
-        (numbers.numbers_of leaving.now.cores leaving.now.slices (R.units of.now) (R.slices of.now))) }
+        leaving.now.cores (L.made of.now) leaving.now.statistics
+        (numbers.numbers_of leaving.now.cores leaving.now.slices units.now managers.now)) }
     ensures err { IfErr result (numbers.IsUnleft leaving.now.format (F.files folder.old) (F.files folder.new) leaving.now.out.now
-        leaving.now.cores (R.made of.now) leaving.now.statistics) }
+        leaving.now.cores (L.made of.now) leaving.now.statistics) }
     ensures far { numbers.AreLeftAsFar leaving.now.format (F.files folder.old) (F.files folder.new) leaving.now.out.now
-        leaving.now.cores (R.made of.now) leaving.now.statistics
-        (numbers.numbers_of leaving.now.cores leaving.now.slices (R.units of.now) (R.slices of.now)) }
+        leaving.now.cores (L.made of.now) leaving.now.statistics
+        (numbers.numbers_of leaving.now.cores leaving.now.slices units.now managers.now) }
     ensures others { KeepsFiles (F.files folder.old).told (F.files folder.new).told
         (numbers.IsLeftName leaving.now.out.now leaving.now.statistics) }
 {
@@ -98,6 +101,6 @@ pub(crate) fn leave<F: Folder, R: RunParts + LogsOfCores>(
         of,
         leaving.cores,
     )?;
-    put_numbers(alloc, folder, leaving, of)?;
+    put_numbers(alloc, folder, leaving, units, managers)?;
     Ok(count)
 }

@@ -44,18 +44,21 @@ pub(crate) fn run<R: Threads + Wait + Sync, W: Watch + Sync, F: Folder>(
     };
     match ran {
         Ok(end) => {
-            let made = UnitLogs {
-                units: &end.units,
-                slices: &end.slices,
-            };
-            leave(alloc, folder, &leaving, &made)
+            let units = end.units.as_slice();
+            let made = UnitLogs { units };
+            leave(alloc, folder, &leaving, &made, units, end.slices.as_slice())
         }
         Err(fault) => {
-            let made = UnitLogs {
-                units: &fault.units,
-                slices: &fault.slices,
-            };
-            let _left = leave(alloc, folder, &leaving, &made);
+            let units = fault.units.as_slice();
+            let made = UnitLogs { units };
+            let _left = leave(
+                alloc,
+                folder,
+                &leaving,
+                &made,
+                units,
+                fault.slices.as_slice(),
+            );
             Err(Refusal::Run(ThreadsFault::of(&fault)))
         }
     }

@@ -7,66 +7,27 @@ use super::writing::LogsOfCores;
 use core_program::ProgramFormat;
 use core_unit::CoreUnit;
 use log_record::{Format, Record};
-use manager_slice::ManagerSlice;
 use mem_op::CoreId;
-use statistics::RunParts;
 use tardis_core::Core;
 
-/// The logs of a machine.
-#[derive(Clone, Copy)]
-pub(crate) struct MachineLogs<'a> {
-    pub(crate) machine: &'a Core,
-}
-
-impl<'a> LogsOfCores for MachineLogs<'a> {
+impl LogsOfCores for Core {
     ghost use Rattle.core_machine.specs.Parts.{world};
     ghost use Rattle.core_machine.specs.Works.{log_at};
 
-    ghost made = { λ logs. log_at (world logs.machine.now) };
+    ghost made = { λ machine. log_at (world machine) };
 
     fn log(&self, core: CoreId) -> &[Record] {
-        let Some(unit) = self.machine.unit(core) else {
+        let Some(unit) = self.unit(core) else {
             return &[];
         };
         unit.log()
     }
 }
 
-impl<'a> RunParts for MachineLogs<'a> {
-    ghost use Rattle.std.specs.Prelude.{map};
-
-    ghost units = { λ logs. map (λ seat. seat.unit) logs.machine.now.seats };
-
-    ghost slices = { λ logs. logs.machine.now.slices };
-
-    fn unit(&self, core: CoreId) -> Option<&CoreUnit> {
-        self.machine.unit(core)
-    }
-
-    fn slice(&self, number: usize) -> Option<&ManagerSlice> {
-        self.machine.slice(number)
-    }
-}
-
-/// The logs of units that threads gave back, and the slices, if they are left.
+/// The logs of units that threads gave back.
 #[derive(Clone, Copy)]
 pub(crate) struct UnitLogs<'a> {
     pub(crate) units: &'a [CoreUnit],
-    pub(crate) slices: &'a [ManagerSlice],
-}
-
-impl<'a> RunParts for UnitLogs<'a> {
-    ghost units = { λ logs. logs.units.now };
-
-    ghost slices = { λ logs. logs.slices.now };
-
-    fn unit(&self, core: CoreId) -> Option<&CoreUnit> {
-        self.units.get(core.get() as usize)
-    }
-
-    fn slice(&self, number: usize) -> Option<&ManagerSlice> {
-        self.slices.get(number)
-    }
 }
 
 impl<'a> LogsOfCores for UnitLogs<'a> {

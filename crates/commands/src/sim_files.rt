@@ -11,7 +11,7 @@ use super::left::{Leaving, leave};
 use super::place::{Input, Output};
 use super::putting::put_under;
 use super::refusal::Refusal;
-use super::run_logs::{MachineLogs, log_format};
+use super::run_logs::log_format;
 use super::text::{read_programs, read_text};
 use command_line::Sim;
 use core_program::ProgramSet;
@@ -51,7 +51,14 @@ pub(crate) fn sim<F: Folder>(alloc: Global, folder: &mut F, asked: &Sim<'_>) -> 
         cores: programs.len(),
         slices: config.slices(),
     };
-    let left = leave(alloc, folder, &leaving, &MachineLogs { machine: &machine });
+    let left = leave(
+        alloc,
+        folder,
+        &leaving,
+        &machine,
+        machine.units(),
+        machine.slices(),
+    );
     let traced = leave_events(alloc, folder, asked.events, &programs, &machine, left);
     ended?;
     traced

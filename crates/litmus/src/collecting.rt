@@ -5,17 +5,19 @@ ghost use Rattle.litmus.specs.Collecting.{AreRowsOf, IsRunCount};
 ghost use Rattle.litmus.specs.Ends.{GetsYes, IsJudgeCause, outcome_of};
 ghost use Rattle.statistics.specs.Runs.{run_numbers};
 ghost use Rattle.litmus.specs.declared.run_fault.CollectFault.TheVariants.{BadRuns};
+ghost use Rattle.litmus.specs.inner.JudgedOutcome.{at_end};
 ghost use Rattle.litmus.specs.inner.Tallies.{IsTally};
 
-use super::ended::Ended;
 use super::judging::judged_outcome;
 use super::run_cause::RunCause;
 use super::run_fault::CollectFault;
 use super::table::Table;
 use super::tally::rows_of;
 use super::test::Litmus;
+use core_unit::CoreUnit;
 use lease_rule::Config;
-use statistics::{RunCounts, RunParts, RunTotals};
+use manager_slice::ManagerSlice;
+use statistics::{RunCounts, RunTotals};
 use std::alloc::{AllocError, Global};
 use std::collections::BTreeMap;
 use std::thread::Threads;
@@ -42,21 +44,23 @@ pub(crate) struct Kept {
 }
 
 /// What is kept of a run that has ended, if its logs get Yes.
-pub(crate) fn keep<R: Threads + Sync, E: Ended + RunParts>(
+pub(crate) fn keep<R: Threads + Sync>(
     rt: &R,
     alloc: Global,
     test: &Litmus,
     config: &Config,
-    end: &E,
+    units: &[CoreUnit],
+    managers: &[ManagerSlice],
 ) -> Result<Kept, RunCause>
     ensures { MatchResult result
-        (λ kept. GetsYes test.now (E.at_end end.now)
-        × (kept.outcome.items ≡ outcome_of test.now (E.at_end end.now))
-        × (kept.counts ≡ run_numbers (length test.now.programs) config.now.slices (E.units end.now) (E.slices end.now)))
-        (λ cause. IsJudgeCause test.now (E.at_end end.now) cause) }
+        (λ kept. GetsYes test.now (at_end units.now)
+        × (kept.outcome.items ≡ outcome_of test.now (at_end units.now))
+        × (kept.counts ≡ run_numbers (length test.now.programs) config.now.slices units.now managers.now))
+        (λ cause. IsJudgeCause test.now (at_end units.now) cause) }
 {
-    let outcome = judged_outcome(rt, alloc, test, end)?;
-    let counts = RunCounts::of(alloc, end, test.programs().len(), config.slices())?;
+    let outcome = judged_outcome(rt, alloc, test, units)?;
+    let cores = test.programs().len();
+    let counts = RunCounts::of(alloc, units, managers, cores, config.slices())?;
     Ok(Kept { outcome, counts })
 }
 

@@ -10,14 +10,15 @@ ghost use Rattle.core_machine.specs.Works.{logs_below};
 ghost use Rattle.litmus.specs.Ends.{GetsYes, IsJudgeCause, outcome_of};
 ghost use Rattle.litmus.specs.declared.run_cause.RunCause.TheVariants as cause;
 ghost use Rattle.litmus.specs.inner.Ending.{word_lists};
-ghost use Rattle.litmus.specs.inner.JudgedOutcome.{IsNo, IsVerdictOn};
+ghost use Rattle.litmus.specs.inner.JudgedOutcome.{IsNo, IsVerdictOn, at_end};
 ghost use Rattle.verdict.specs.Counts.{IsInRange};
 ghost use Rattle.verdict.specs.Judgement.{IsYes};
 
-use super::ended::{Ended, outcome_of};
+use super::ended::{log_of, outcome_of};
 use super::run_cause::RunCause;
 use super::test::Litmus;
 use core_program::ProgramSet;
+use core_unit::CoreUnit;
 use log_file::{MemSink, SliceSource, write_log};
 use log_record::{Format, Record};
 use mem_op::CoreId;
@@ -46,17 +47,17 @@ fn log_text(
 }
 
 /// The texts of the logs of this many cores.
-fn log_texts<E: Ended>(alloc: Global, end: &E, cores: usize) -> Result<Vec<Vec<u8>>, RunCause>
+fn log_texts(alloc: Global, units: &[CoreUnit], cores: usize) -> Result<Vec<Vec<u8>>, RunCause>
     requires { cores ≤ 64 }
     ensures texts { IfOk result (λ texts.
-        SpellSet (word_lists texts.items) (logs_below (E.at_end end.now) cores)) }
+        SpellSet (word_lists texts.items) (logs_below (at_end units.now) cores)) }
     ensures count { IfOk result (λ texts. length texts.items ≡ cores) }
     ensures refused { IfErr result (λ cause. cause ≡ RunCause.OutOfMemory) }
 {
     let mut texts = Vec::new(alloc);
     for number in 0..cores {
         let core = CoreId::at(number);
-        let text = log_text(alloc, core, cores, end.log(core))?;
+        let text = log_text(alloc, core, cores, log_of(units, core))?;
         texts.push(text)?;
     }
     Ok(texts)
@@ -105,18 +106,18 @@ fn check_yes(verdict: &Verdict) -> Result<(), RunCause>
 }
 
 /// Judges the logs of a run that has ended: Ok if they get Yes.
-fn judge_end<R: Threads + Sync, E: Ended>(
+fn judge_end<R: Threads + Sync>(
     rt: &R,
     alloc: Global,
     test: &Litmus,
-    end: &E,
+    units: &[CoreUnit],
 ) -> Result<(), RunCause>
     ensures { MatchResult result
-        (λ _. GetsYes test.now (E.at_end end.now))
-        (λ cause. IsJudgeCause test.now (E.at_end end.now) cause) }
+        (λ _. GetsYes test.now (at_end units.now))
+        (λ cause. IsJudgeCause test.now (at_end units.now) cause) }
 {
     let programs = test.programs();
-    let texts = log_texts(alloc, end, programs.len())?;
+    let texts = log_texts(alloc, units, programs.len())?;
     match &judge_texts(rt, alloc, programs, texts.as_slice()) {
         Ok(verdict) => check_yes(verdict),
         Err(JudgeFault::OutOfMemory) => Err(RunCause::OutOfMemory),
@@ -125,17 +126,17 @@ fn judge_end<R: Threads + Sync, E: Ended>(
 }
 
 /// The outcome of a run that has ended, if its logs get Yes.
-pub(crate) fn judged_outcome<R: Threads + Sync, E: Ended>(
+pub(crate) fn judged_outcome<R: Threads + Sync>(
     rt: &R,
     alloc: Global,
     test: &Litmus,
-    end: &E,
+    units: &[CoreUnit],
 ) -> Result<Vec<u64>, RunCause>
     ensures { MatchResult result
-        (λ outcome. GetsYes test.now (E.at_end end.now)
-        × (outcome.items ≡ outcome_of test.now (E.at_end end.now)))
-        (λ cause. IsJudgeCause test.now (E.at_end end.now) cause) }
+        (λ outcome. GetsYes test.now (at_end units.now)
+        × (outcome.items ≡ outcome_of test.now (at_end units.now)))
+        (λ cause. IsJudgeCause test.now (at_end units.now) cause) }
 {
-    judge_end(rt, alloc, test, end)?;
-    Ok(outcome_of(alloc, test, end)?)
+    judge_end(rt, alloc, test, units)?;
+    Ok(outcome_of(alloc, test, units)?)
 }

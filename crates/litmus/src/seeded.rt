@@ -56,7 +56,7 @@ fn run_seeded<R: Threads + Sync>(
     // The length of the set tells that it has 64 programs at most.
     test.programs().len();
     let machine = simulate_run(alloc, test, config, seed, stress)?;
-    keep(rt, alloc, test, config, &machine)
+    keep(rt, alloc, test, config, machine.units(), machine.slices())
 }
 
 /// The seed of the commands of this run, if any are drawn.

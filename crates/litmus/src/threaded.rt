@@ -42,7 +42,14 @@ fn run_threaded<R: Threads + Wait + Sync>(
     ensures yes { IfErr result (λ cause. ¬ (SaysNo cause)) }
 {
     match run_threads(rt, alloc, test.programs(), config, &Unpaced) {
-        Ok(end) => keep(rt, alloc, test, config, &end),
+        Ok(end) => keep(
+            rt,
+            alloc,
+            test,
+            config,
+            end.units.as_slice(),
+            end.slices.as_slice(),
+        ),
         Err(stopped) => Err(RunCause::Threads(ThreadsFault::of(&stopped))),
     }
 }

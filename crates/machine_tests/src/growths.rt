@@ -225,7 +225,7 @@ fn a_machine_of_one_line(rt: HostRuntime) -> Result<(), Fail> {
     for machine in [&machine, &again] {
         let unit = machine.unit(core(0)).ok_or("core 0 is there")?;
         assert_eq!(rt; (unit.log().len(), unit.transcript().len()), (2, 6));
-        let slice = machine.slice(0).ok_or("slice 0 is there")?;
+        let slice = machine.slices().first().ok_or("slice 0 is there")?;
         assert_eq!(rt; slice.state().memory.mts, stamp(1));
     }
     Ok(())

@@ -168,7 +168,8 @@ fn push_line(
         Some(unit) => push_held(alloc, cells, unit.cache().line(addr))?,
         None => push_blanks(cells, 5)?,
     }
-    match step.machine.slice(step.machine.config().slice_of(addr)) {
+    let number = step.machine.config().slice_of(addr);
+    match step.machine.slices().get(number) {
         Some(slice) => push_managed(alloc, cells, slice, addr),
         None => push_blanks(cells, 7),
     }

@@ -1,6 +1,5 @@
 pub mod Counting
 pub mod Lines
 pub mod Plain
-pub mod RunLists
 pub mod Sums
 pub mod Totals

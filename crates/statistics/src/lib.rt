@@ -12,6 +12,6 @@ mod table_text;
 
 pub use numbers::Numbers;
 pub use run_counts::RunCounts;
-pub use run_parts::{RunParts, counts_of_cores, counts_of_slices};
+pub use run_parts::{counts_of_cores, counts_of_slices};
 pub use run_totals::RunTotals;
 pub use table_text::{print_statistics, print_totals};

@@ -4,7 +4,9 @@ ghost use Rattle.std.specs.Prelude.{◌≡◌, ◌≤◌, IfOk};
 ghost use Rattle.statistics.specs.Runs.{run_numbers};
 
 use super::numbers::Numbers;
-use super::run_parts::{RunParts, counts_of_cores, counts_of_slices};
+use super::run_parts::{counts_of_cores, counts_of_slices};
+use core_unit::CoreUnit;
+use manager_slice::ManagerSlice;
 use std::alloc::{AllocError, Global};
 use std::marker::Model;
 
@@ -30,20 +32,20 @@ impl Model for RunCounts {
 
 impl RunCounts {
     /// The numbers of so many cores and slices of a run, or of all if there are fewer. Err if memory was refused.
-    pub fn of<R: RunParts>(
+    pub fn of(
         alloc: Global,
-        run: &R,
+        units: &[CoreUnit],
+        managers: &[ManagerSlice],
         cores: usize,
         slices: usize,
     ) -> Result<RunCounts, AllocError>
         requires cores { cores ≤ 64 }
         requires slices { slices ≤ 64 }
-        ensures { IfOk result (λ counts.
-            counts ≡ run_numbers cores slices (R.units run.now) (R.slices run.now)) }
+        ensures { IfOk result (λ counts. counts ≡ run_numbers cores slices units.now managers.now) }
     {
         Ok(RunCounts {
-            cores: counts_of_cores(alloc, run, cores)?,
-            slices: counts_of_slices(alloc, run, slices)?,
+            cores: counts_of_cores(alloc, units, cores)?,
+            slices: counts_of_slices(alloc, managers, slices)?,
         })
     }
 }

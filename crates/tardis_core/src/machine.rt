@@ -101,13 +101,6 @@ impl Core {
         machine.slices.as_slice()
     }
 
-    /// A slice, if it is there.
-    pub fn slice(&self, number: usize) -> Option<&ManagerSlice>
-        ensures { option_copied result ≡ slice_get self.now.slices number }
-    {
-        self.slices().get(number)
-    }
-
     /// Does nothing: its contract says that some list of events leads to this machine from the
     /// start of its programs.
     pub fn replays(&self)

@@ -1,7 +1,11 @@
--- What the judge answers to the logs of a run, and a No as the cause why a run has no outcome that counts. Private contracts cite these.
-use Rattle.std.specs.Prelude.{◌≡◌, List, Result, Ok, Err}
+-- The cores of a run that has ended, what the judge answers to their logs, and a No as the cause why a run has no outcome that counts. Private contracts
+-- cite these.
+use Rattle.std.specs.Prelude.{◌≡◌, List, [], None, Result, Ok, Err, map}
 use Rattle.log_record.specs.declared.record.Record.{Record}
 use Rattle.core_program.specs.declared.instruction.Instruction.{Instruction}
+use Rattle.core_unit.specs.Parts.{UnitParts, core_of}
+use Rattle.core_machine.specs.Machine.{World}
+use Rattle.audit.specs.Events.{world_of}
 use Rattle.verdict.specs.VerdictOf.{run_verdict_of}
 use Rattle.verdict.specs.declared.answer.Verdict.{Verdict}
 use Rattle.verdict.specs.declared.answer.Verdict.TheVariants.{Yes, No}
@@ -9,6 +13,10 @@ use Rattle.verdict.specs.declared.judge_fault.JudgeFault.{JudgeFault}
 use Rattle.verdict.specs.declared.judge_fault.JudgeFault.TheVariants as fault
 use Rattle.litmus.specs.declared.run_cause.RunCause.{RunCause}
 use Rattle.litmus.specs.declared.run_cause.RunCause.TheVariants as cause
+
+-- these units alone
+abbrev pub at_end : List UnitParts → World
+at_end us = world_of (map (λ u. core_of u None) us) []
 
 -- the verdict on the logs, against the programs; lack of memory may come instead, and no other fault
 abbrev pub IsVerdictOn : List (List Instruction) → List (List Record) → Result Verdict JudgeFault → Type 0

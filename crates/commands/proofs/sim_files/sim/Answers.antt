@@ -89,7 +89,7 @@ returns-in_err-ended-clause-exact g c =
     let same : c.log_format.result ≡ log_format set.format = search rules in
     let parts : c.slices.result ≡ asked.limits.slices = search rules in
     let text = λ (n k : ℕ). numbers_of n k (map (λ seat. seat.unit) q.seats) q.slices in
-    let far = subst (λ (f : Files). AreLeftAsFar c.log_format.result f mid asked.out.now c.len-2.result (log_at (world q)) asked.statistics (text c.len-2.result c.slices.result)) as_it_was c.leave-left.ensures.far in
+    let far = subst (λ (f : Files). AreLeftAsFar c.log_format.result f mid asked.out.now c.len-2.result (log_at (world q)) asked.statistics (text c.len-2.result c.slices.result)) as_it_was (rw (c.units.ensures, c.slices-2.ensures) at c.leave-left.ensures.far) in
     rw is (
       mid,
       Err (Simulation c.in_err-ended.field-0.0),
@@ -119,7 +119,7 @@ returns-clause-exact g c =
     let same : c.log_format.result ≡ log_format set.format = search rules in
     let parts : c.slices.result ≡ asked.limits.slices = search rules in
     let text = λ (n k : ℕ). numbers_of n k (map (λ seat. seat.unit) q.seats) q.slices in
-    let left = subst (λ (f : Files). OnOk c.leave-left.result (AreLeft c.log_format.result f mid asked.out.now c.len-2.result (log_at (world q)) asked.statistics (text c.len-2.result c.slices.result))) as_it_was c.leave-left.ensures.left in
+    let left = subst (λ (f : Files). OnOk c.leave-left.result (AreLeft c.log_format.result f mid asked.out.now c.len-2.result (log_at (world q)) asked.statistics (text c.len-2.result c.slices.result))) as_it_was (rw (c.units.ensures, c.slices-2.ensures) at c.leave-left.ensures.left) in
     let why = subst (λ (f : Files). IfErr c.leave-left.result (IsUnleft c.log_format.result f mid asked.out.now c.len-2.result (log_at (world q)) asked.statistics)) as_it_was c.leave-left.ensures.err in (
       mid,
       c.leave-left.result,

@@ -3,5 +3,5 @@ use Rattle.std.proofs.Common.{◌≡◌, map, take}
 use Rattle.statistics.specs.Columns.{core_counts}
 use Rattle.statistics.proofs.run_parts.counts_of_cores.Given as goal
 
-abbrev pub invariant-loop-number : goal.invariant-loop-number
-invariant-loop-number g l = l.counts.items ≡ map core_counts (take l.number (g.R.RunParts.units l.of))
+abbrev pub invariant-loop-unit : goal.invariant-loop-unit
+invariant-loop-unit l = l.counts.items ≡ map core_counts (take l.unit-index l.shown)
