@@ -40,6 +40,7 @@ fn numbers_of(
     cores: usize,
     slices: usize,
 ) -> Result<Vec<u8>, AllocError>
+    requires { cores ≤ 64 }
     ensures { IfOk result (λ text. text.items ≡ numbers.numbers_of cores slices units.now managers.now) }
 {
     let of_cores = counts_of_cores(alloc, units, cores)?;
@@ -55,6 +56,7 @@ fn put_numbers<F: Folder>(
     units: &[CoreUnit],
     managers: &[ManagerSlice],
 ) -> Result<(), Refusal>
+    requires { leaving.now.cores ≤ 64 }
     ensures ok { OnOk result (PutsAt (F.files folder.old) (F.files folder.new) leaving.now.statistics
         (numbers.numbers_of leaving.now.cores leaving.now.slices units.now managers.now)) }
     ensures err { IfErr result (numbers.IsUnput (F.files folder.old) (F.files folder.new) leaving.now.statistics) }
