@@ -13,7 +13,7 @@ use refutation::{Answer, Refutation, confirm, first_bad_line, refutes};
 use search::search;
 use std::test::Fail;
 use trace::{Trace, TraceReader};
-use verdict::replay_order;
+use verdict::{accesses_of, replay_order};
 
 /// Core 0 stores and loads; core 1 stores, and loads what core 0 stored.
 const LOGS: [&str; 2] = [
@@ -48,8 +48,8 @@ fn a_set_of_logs(rt: HostRuntime) -> Result<(), Fail> {
     );
     let order = [id(0, 0), id(0, 1), id(1, 0), id(1, 1)];
     assert!(rt; replay_order(alloc, &order, &logs)?);
-    let trace = Trace::from_logs(alloc, &logs)?;
-    assert!(rt; replays(alloc, &trace, &order)?);
+    let trace = Trace::of(alloc, accesses_of(alloc, &logs)?)?;
+    assert!(rt; replays(alloc, trace.cores(), &order)?);
     let answer = search(alloc, &trace, 0)?;
     assert!(rt; matches!(&answer, Answer::Order(_)));
     Ok(())

@@ -9,7 +9,6 @@ mod LogTraces
 mod Logs
 mod Numbers
 mod OrderLines
-mod OrderReplays
 mod Orders
 mod OtherOrders
 mod OwnLogs

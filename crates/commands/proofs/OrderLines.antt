@@ -17,7 +17,8 @@ use Rattle.text_lines.specs.Fields.{below, last_below}
 use Rattle.text_lines.specs.Items.{lines_of}
 use Rattle.text_lines.proofs.Fields.{below_again, below_is, last_below_again, last_below_takes}
 use Rattle.text_lines.proofs.Items.{IsReading, SoFar}
-use Rattle.commands.specs.OrderTexts.{BeginsWithIds, ComeInOrder, IsFirstBadOfOrder, IsFirstWrongPlace, NoIdInFront, SpellsOrder}
+use Rattle.flat_replay.specs.Orders.{ComeInOrder, IsFirstWrongPlace}
+use Rattle.commands.specs.OrderTexts.{BeginsWithIds, IsFirstBadOfOrder, NoIdInFront, SpellsOrder}
 use Rattle.commands.specs.inner.Certificates.{TellsEnd, id_of}
 
 -- ---- the line of an id

@@ -17,7 +17,8 @@ use Rattle.line_stamps.proofs.Ordered.{AllPairs-from_each, In-filter, In-filtere
 use Rattle.log_record.specs.declared.record.Entry.{Entry}
 use Rattle.log_record.specs.declared.record.Record.{Record}
 use Rattle.log_record.specs.Entries.{core_entries, entries, entries_from, record_lists}
-use Rattle.log_record.proofs.EntryFacts.{Apart, apart, same_id, same_id-refl, same_id-true}
+use Rattle.line_stamps.proofs.Ids.{same_id, same_id-refl, same_id-true}
+use Rattle.log_record.proofs.EntryFacts.{Apart, apart}
 use Rattle.mem_op.specs.Consistency.{is_same_id}
 use Rattle.address_check.proofs.Pairs.{EachPair-from_all, place_of}
 use Rattle.verdict.proofs.EntryLogs.{records_of_core}

@@ -13,7 +13,8 @@ use Rattle.flat_replay.proofs.Flat.{after_is}
 use Rattle.line_stamps.proofs.Ordered.{In-slice_get, filter_map-In}
 use Rattle.line_stamps.specs.Ordered.{In}
 use Rattle.log_file.proofs.Joined.{length-core_entries}
-use Rattle.log_record.proofs.EntryFacts.{at, operation_at-operations_of, same_id}
+use Rattle.line_stamps.proofs.Ids.{same_id}
+use Rattle.log_record.proofs.EntryFacts.{at, operation_at-operations_of}
 use Rattle.log_record.specs.Entries.{core_entries, operation_by, operation_of, operations_of, record_at, record_lists}
 use Rattle.log_record.specs.declared.act.Act.{Act}
 use Rattle.log_record.specs.declared.act.Act.TheVariants.{Load, Store, Swap}

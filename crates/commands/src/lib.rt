@@ -17,7 +17,6 @@ mod log_files;
 mod more;
 mod order_certificate;
 mod order_files;
-mod order_replay;
 mod other_order;
 mod output;
 mod place;

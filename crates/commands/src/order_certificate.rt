@@ -4,8 +4,8 @@ ghost use Rattle.std.specs.Prelude.{◌≡◌, ◌<◌, ◌^◌, IfOk, IfSome, I
 ghost use Rattle.commands.specs.OrderTexts as orders;
 ghost use Rattle.commands.specs.inner.Certificates.{TellsEnd, id_of};
 
-use super::order_replay::first_wrong_place;
 use decimal_text::{after_text, read_field, read_last};
+use flat_replay::first_wrong_place;
 use mem_op::{CoreId, OpId, OpIndex};
 use std::alloc::{AllocError, Global};
 use text_lines::next_line;
@@ -77,7 +77,7 @@ pub(crate) fn first_bad_line_of_order(
         (λ line. orders.IsFirstBadOfOrder trace.now text.now line)) }
 {
     let front = read_ids(alloc, text)?;
-    if let Some(place) = first_wrong_place(alloc, trace, front.ids.as_slice())? {
+    if let Some(place) = first_wrong_place(alloc, trace.cores(), front.ids.as_slice())? {
         return Ok(Some(place as u64 + 1));
     }
     bad_end(alloc, front.rest, front.ids.len() as u64)

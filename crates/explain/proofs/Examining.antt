@@ -10,7 +10,7 @@ use Rattle.mem_op.specs.Consistency.{is_same_id}
 use Rattle.log_record.specs.declared.record.Entry.{Entry}
 use Rattle.log_record.specs.declared.record.Record.{Record}
 use Rattle.log_record.specs.Entries.{entries}
-use Rattle.log_record.proofs.EntryFacts.{same_id-refl}
+use Rattle.line_stamps.proofs.Ids.{same_id-refl}
 use Rattle.core_program.specs.declared.instruction.Instruction.{Instruction}
 use Rattle.core_check.specs.declared.fault.RuleFault.{RuleFault}
 use Rattle.core_check.specs.FaultOrder.{core_fault_cmp}

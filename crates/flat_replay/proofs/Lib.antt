@@ -1,5 +1,5 @@
 pub mod Flat
-pub mod LogOperations
 pub mod Memories
+pub mod Orders
 pub mod Replaying
 pub mod Turns

@@ -1,19 +1,16 @@
 -- The pass over an order that counts on for each core and keeps one memory.
-use Rattle.std.specs.Prelude.{◌≡◌, ◌↔◌, ℕ, zero, suc, ◌+◌, ◌<◌, List, [], ◌∷◌, ◌++◌, refl, None, Some, slice_index, slice_set, length, map, take, drop}
+use Rattle.std.specs.Prelude.{◌≡◌, ◌↔◌, ℕ, zero, suc, ◌+◌, ◌<◌, List, [], ◌∷◌, ◌++◌, refl, Some, slice_index, slice_set, length, map}
 use Rattle.std.specs.List.{filter_map, cons_option, range_with_len}
-use Rattle.std.proofs.Common.{sym, ◌∙◌, ap, subst, inl, get_or}
+use Rattle.std.proofs.Common.{sym, ◌∙◌, ap, subst}
 use Rattle.std.proofs.lemmas.Grind.{same_number_lists}
-use Rattle.std.proofs.lemmas.List.{length-map, take-append-drop, drop_more}
+use Rattle.std.proofs.lemmas.List.{length-map}
 use Rattle.std.proofs.lemmas.List.Elements.{filter_map-append}
 use Rattle.std.proofs.lemmas.List.FromFn.{length-range_with_len}
-use Rattle.std.proofs.lemmas.Option.{none-some, slice_get-get_or}
 use Rattle.mem_op.specs.declared.id.OpId.{OpId}
-use Rattle.mem_op.specs.Consistency.{Operation, Stored, operation_at, last_value, GivesFlatAnswers, IsSequentialOrder}
-use Rattle.line_stamps.proofs.Ordered.{In-append_right}
-use Rattle.flat_replay.specs.Accesses.{own_operations}
+use Rattle.mem_op.specs.Consistency.{Operation, operation_at, last_value, GivesFlatAnswers, IsSequentialOrder}
 use Rattle.flat_replay.specs.Memory.{IsAnsweredBy, after}
-use Rattle.flat_replay.proofs.Flat.{after_is, answered, flat_at_middle, flat_push}
-use Rattle.flat_replay.proofs.Turns.{InTurn, number_of, at_core, index_below, in_turn, from_turn, is_next, in_turn-more}
+use Rattle.flat_replay.proofs.Flat.{after_is, answered, flat_push}
+use Rattle.flat_replay.proofs.Turns.{InTurn, number_of, in_turn, from_turn, in_turn-more}
 
 abbrev pub done : List (List Operation) → List OpId → List Operation
 done cores ids = filter_map (operation_at cores) ids
@@ -24,7 +21,7 @@ pub record Replayed (cores : List (List Operation)) (ids : List OpId) (next : Li
   pub flat : GivesFlatAnswers (done cores ids)
   pub words : (addr : ℕ) → memory addr ≡ last_value addr (done cores ids)
 
-done-append : (cores : List (List Operation)) (before : List OpId) (id : OpId) (rest : List OpId) (y : Operation) → Some y ≡ operation_at cores id
+pub done-append : (cores : List (List Operation)) (before : List OpId) (id : OpId) (rest : List OpId) (y : Operation) → Some y ≡ operation_at cores id
     → done cores (before ++ id ∷ rest) ≡ done cores before ++ y ∷ done cores rest
 done-append cores before id rest y there =
     filter_map-append (operation_at cores) before (id ∷ rest) ∙ ap (λ o. done cores before ++ cons_option o (done cores rest)) (sym there)
@@ -41,30 +38,6 @@ replayed-more cores ids next m n id y h there within is_next answers left = reco
   where
     pushed : done cores (ids ++ id ∷ []) ≡ done cores ids ++ y ∷ []
     pushed = done-append cores ids id [] y there
-
--- what the next id of a sequential order is
-pub record IsNext (cores : List (List Operation)) (next : List ℕ) (memory : ℕ → ℕ) (id : OpId) : Type 0 where
-  pub there : None ≡ operation_at cores id → ⊥
-  pub in_turn : id.index ≡ slice_index next id.core
-  pub answers : (y : Operation) → Some y ≡ operation_at cores id → IsAnsweredBy memory y
-
-pub replayed-next : (cores : List (List Operation)) (order : List OpId) (k : ℕ) (next : List ℕ) (memory : ℕ → ℕ) (id : OpId)
-    → Replayed cores (take k order) next memory → k < length order → id ≡ get_or order k id → IsSequentialOrder cores order → IsNext cores next memory id
-replayed-next cores order k next memory id h l at sequential =
-    by_split (take k order) (drop (k + 1) order) h
-    (subst (IsSequentialOrder cores) (sym (take-append-drop k order) ∙ ap (λ ids. take k order ++ ids) (drop_more order k id l ∙ ap (λ x. x ∷ drop (k + 1) order) (sym at))) sequential)
-  where
-    by_split : (before rest : List OpId) → Replayed cores before next memory → IsSequentialOrder cores (before ++ id ∷ rest) → IsNext cores next memory id
-    by_split before rest h s =
-        let turn = in_turn cores (before ++ id ∷ rest) s.serial s.program in
-        let below = index_below (number_of cores) (before ++ id ∷ rest) id turn (In-append_right id before (id ∷ rest) (inl refl)) in
-        record {
-          there = λ none. none-some (get_or (own_operations cores id.core) id.index (Stored 0 0))
-              (none ∙ at_core cores id ∙ slice_get-get_or (own_operations cores id.core) id.index (Stored 0 0) below);
-          in_turn = is_next (number_of cores) (slice_index next) before rest id turn h.turn;
-          answers = λ y there. answered y (λ addr. last_value addr (done cores before)) memory (λ addr. sym (h.words addr))
-              (flat_at_middle (done cores before) y (done cores rest) (subst GivesFlatAnswers (done-append cores before id rest y there) s.flat));
-        }
 
 -- an order is sequential where at its end all operations of each core are done
 pub replayed-all : (cores : List (List Operation)) (order : List OpId) (next : List ℕ) (memory : ℕ → ℕ) → Replayed cores order next memory

@@ -13,7 +13,7 @@ use Rattle.mem_op.specs.declared.id.OpId.{OpId}
 use Rattle.mem_op.specs.Consistency.{Operation, is_same_id, operation_at, IsSerialOrder, KeepsProgramOrder}
 use Rattle.line_stamps.specs.Ordered.{In, EachPair}
 use Rattle.line_stamps.proofs.Ordered.{AllPairs-from_each, In-filter_map, filter_map-In}
-use Rattle.log_record.proofs.EntryFacts.{one_if, same_id, count_none}
+use Rattle.line_stamps.proofs.Ids.{one_if, same_id, count_none}
 use Rattle.flat_replay.specs.Accesses.{own_operations}
 
 -- the indices of a core's ids
@@ -169,24 +169,24 @@ from_turn cores order turn = (
 
 -- ---- one id after another
 
--- the id that stands after others in turn is the next of its core
-pub is_next : (number next : ℕ → ℕ) (before rest : List OpId) (id : OpId) → InTurn number (before ++ id ∷ rest) → InTurn next before → id.index ≡ next id.core
-is_next number next before rest id all turn =
+-- of an id that stands in turn, the index is the number of those before it of its core
+pub index_of : (number : ℕ → ℕ) (before rest : List OpId) (id : OpId) → InTurn number (before ++ id ∷ rest) → length (indices id.core before) ≡ id.index
+index_of number before rest id all =
     let whole = all id.core in
-    let so_far = turn id.core in
-    let e : range_with_len 0 (next id.core) ++ id.index ∷ indices id.core rest ≡ range_with_len 0 (number id.core) = grind (arith, nat_tests, filter_map-append) in
-    let is = next_in_range 0 (next id.core) (number id.core) id.index (indices id.core rest) e in
+    let e : indices id.core before ++ id.index ∷ indices id.core rest ≡ range_with_len 0 (number id.core) = grind (arith, nat_tests, filter_map-append) in
+    let is = at_place 0 (number id.core) id.index (indices id.core before) (indices id.core rest) e in
     omega arith
   where
-    next_in_range : (from n m j : ℕ) (js : List ℕ) → range_with_len from n ++ j ∷ js ≡ range_with_len from m → j ≡ from + n
-    next_in_range from zero (suc m) j js e = let first : j ≡ from = cc in omega arith
-    next_in_range from (suc n) (suc m) j js e =
-        let later : range_with_len (from + 1) n ++ j ∷ js ≡ range_with_len (from + 1) m = cc in
-        let is = next_in_range (from + 1) n m j js later in
+    at_place : (from m j : ℕ) (is js : List ℕ) → is ++ j ∷ js ≡ range_with_len from m → j ≡ from + length is
+    at_place from (suc m) j [] js e = let first : j ≡ from = cc in omega arith
+    at_place from (suc m) j (i ∷ is) js e =
+        let later : is ++ j ∷ js ≡ range_with_len (from + 1) m = cc in
+        let there = at_place (from + 1) m j is js later in
         omega arith
-    next_in_range from n m j js e = absurd cc
+    at_place from zero j [] js e = absurd cc
+    at_place from zero j (i ∷ is) js e = absurd cc
 
--- and is in turn there
+-- one more id in turn
 pub in_turn-more : (next : List ℕ) (before : List OpId) (id : OpId) → InTurn (slice_index next) before → id.core < length next → id.index ≡ slice_index next id.core → InTurn (slice_index (slice_set next id.core (id.index + 1))) (before ++ id ∷ [])
 in_turn-more next before id turn within is core =
     let so_far = turn core in

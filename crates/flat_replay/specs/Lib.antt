@@ -1,3 +1,4 @@
 pub mod Accesses
 pub mod Memory
+pub mod Orders
 pub mod inner

@@ -2,13 +2,9 @@
 #![tactic(auto)]
 
 mod access;
-mod logs;
 mod memory;
-mod operations;
 mod replay;
 
 pub use access::{Access, Address};
-pub use logs::access_of;
 pub use memory::Memory;
-pub use operations::{Operations, lengths_of};
-pub use replay::replays;
+pub use replay::{first_wrong_place, operation_at, replays};

@@ -1,3 +1,4 @@
+pub mod Ids
 pub mod Joined
 pub mod Keys
 pub mod Order

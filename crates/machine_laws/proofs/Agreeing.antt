@@ -7,7 +7,7 @@ use Rattle.mem_op.specs.declared.id.Source.{Source}
 use Rattle.mem_op.specs.declared.id.Source.TheVariants.{Init, Store}
 use Rattle.line_stamps.specs.declared.line.Line.{Line}
 use Rattle.log_record.specs.declared.record.Record.{Record}
-use Rattle.log_record.proofs.EntryFacts.{same_id}
+use Rattle.line_stamps.proofs.Ids.{same_id}
 use Rattle.address_check.specs.AddressFaults.{is_store}
 use Rattle.machine_laws.specs.Views.{View, Did}
 use Rattle.machine_laws.specs.Stamps.{HasStamps}

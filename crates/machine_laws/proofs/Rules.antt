@@ -19,7 +19,8 @@ use Rattle.log_record.specs.declared.act.Act.TheVariants.{Load, Store, Swap}
 use Rattle.log_record.specs.declared.record.Entry.{Entry}
 use Rattle.log_record.specs.declared.record.Record.{Record}
 use Rattle.log_record.specs.Entries.{entries, entry_cmp, record_at}
-use Rattle.log_record.proofs.EntryFacts.{at, same_id, same_id-refl, record_of_entry, entry_of_record, same_record}
+use Rattle.line_stamps.proofs.Ids.{same_id, same_id-refl}
+use Rattle.log_record.proofs.EntryFacts.{at, record_of_entry, entry_of_record, same_record}
 use Rattle.core_check.specs.CoreOrder.{falls, is_core_fault}
 use Rattle.core_check.specs.CoreFaults.{breaks_core_order, order_faults}
 use Rattle.address_check.specs.AddressFaults.{is_store, is_earlier_store, right_store, is_source, value_from, broken_rule, fault_by, act_fault, address_fault, address_faults}

@@ -8,7 +8,7 @@ use Rattle.std.proofs.lemmas.Bool.{cases_lt, cases_Bool, cond-true, cond-false, 
 use Rattle.std.proofs.lemmas.List.{get_or-set_same, length-set, length-map}
 use Rattle.std.proofs.lemmas.List.Sums.{list_all-from_AllPass}
 use Rattle.std.proofs.lemmas.Option.{same_Some, slice_get-get_or}
-use Rattle.log_record.proofs.EntryFacts.{same_id}
+use Rattle.line_stamps.proofs.Ids.{same_id}
 use Rattle.mem_op.specs.declared.id.OpId.{OpId}
 use Rattle.mem_op.specs.Consistency.{Operation, operation_at, is_store_to, word_left, IsSequentialOrder}
 use Rattle.flat_replay.specs.Accesses.{address_of, word_read}

@@ -6,7 +6,7 @@ use Rattle.decimal_text.specs.Numbers.{numeral}
 use Rattle.decimal_text.specs.Reading.{◌>>=◌, after, field_at, number_at}
 use Rattle.decimal_text.proofs.Numbers.{NoDigit, after_takes, after_again, number_takes, number_again}
 use Rattle.decimal_text.proofs.Reading.{bind_some, some_is, field_takes, field_again}
-use Rattle.log_record.proofs.EntryFacts.{same_id-true, same_id-refl}
+use Rattle.line_stamps.proofs.Ids.{same_id-true, same_id-refl}
 use Rattle.mem_op.specs.declared.id.OpId.{OpId}
 use Rattle.mem_op.specs.Limits.{operation_limit}
 use Rattle.refutation.specs.declared.step.Point.{Point}

@@ -8,7 +8,7 @@ use Rattle.std.proofs.lemmas.Bool.Decides.{nat_tests}
 use Rattle.std.proofs.lemmas.List.{get_or-set_same, length-set, length-map, length-drop, take_all, set-get_or, set-set, get_or-drop}
 use Rattle.std.proofs.lemmas.List.Sums.{prefix_len-le-length, prefix_len_passes}
 use Rattle.std.proofs.lemmas.Option.{same_Some, slice_get-get_or, slice_get_within}
-use Rattle.log_record.proofs.EntryFacts.{same_id}
+use Rattle.line_stamps.proofs.Ids.{same_id}
 use Rattle.mem_op.specs.declared.id.OpId.{OpId}
 use Rattle.mem_op.specs.Consistency.{Operation, Stored, operation_at, word_left}
 use Rattle.flat_replay.specs.Accesses.{address_of}

@@ -10,7 +10,7 @@ use Rattle.std.proofs.lemmas.List.Sums.{sum_by-cons, get_or-le-sum_by, passes_at
 use Rattle.std.proofs.lemmas.Option.{same_Some, option_and_then_some, slice_get_within, slice_get-get_or}
 use Rattle.mem_op.specs.declared.id.OpId.{OpId}
 use Rattle.mem_op.specs.Consistency.{Operation, operation_at, is_same_id, is_store_to, last_value, GivesFlatAnswers, IsSequentialOrder}
-use Rattle.log_record.proofs.EntryFacts.{one_if, same_id-true, same_id-refl}
+use Rattle.line_stamps.proofs.Ids.{one_if, same_id-true, same_id-refl}
 use Rattle.flat_replay.specs.Accesses.{address_of, word_read}
 use Rattle.flat_replay.specs.Memory.{IsAnsweredBy, after}
 use Rattle.flat_replay.proofs.Flat.{after_is, flat_at_middle}

@@ -29,7 +29,7 @@ pub fn confirm(alloc: Global, trace: &Trace, claim: Answer) -> Result<Answer, Al
     ensures undecided { IfOk result (λ answer. ¬ IsShown trace.now claim → answer ≡ Answer.Undecided) }
 {
     let shown = match &claim {
-        Answer::Order(order) => replays(alloc, trace, order)?,
+        Answer::Order(order) => replays(alloc, trace.cores(), order)?,
         Answer::Refutation(refutation) => refutes(alloc, trace, refutation)?,
         Answer::Undecided => true,
     };

@@ -6,7 +6,8 @@ use Rattle.mem_op.specs.Consistency.{Operation}
 use Rattle.mem_op.specs.Limits.{operation_limit}
 use Rattle.flat_replay.specs.Accesses.{operation_lists}
 use Rattle.trace.specs.Growing.{IsOfSize}
-use Rattle.trace.proofs.Growth.{lengths_are, size_is}
+use Rattle.flat_replay.proofs.Orders.{lengths_are}
+use Rattle.trace.proofs.Growth.{size_is}
 use Rattle.telling.specs.FirstLines.{operation_count}
 
 -- the lengths of the vectors add up to it

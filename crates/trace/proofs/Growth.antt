@@ -1,5 +1,5 @@
 -- A trace whose cores grow.
-use Rattle.std.proofs.Common.{◌≡◌, ◌≤◌, ◌<◌, ℕ, zero, suc, List, [], ◌∷◌, ◌++◌, length, refl, ap, ◌∙◌, arith, length-append, slice_index_or, slice_set, map, vec_len, All, ◌↔◌, sym, inl, inr}
+use Rattle.std.proofs.Common.{◌≡◌, ◌≤◌, ◌<◌, ℕ, zero, suc, List, [], ◌∷◌, ◌++◌, length, refl, ap, ◌∙◌, arith, length-append, slice_index_or, slice_set, vec_len, All, ◌↔◌, sym, inl, inr}
 use Rattle.std.proofs.lemmas.Bool.{cases_lt}
 use Rattle.std.specs.Global.{Vec}
 use Rattle.mem_op.specs.Consistency.{Operation}
@@ -19,12 +19,6 @@ lists-push (core ∷ cores) more = ap (λ rest. core.items ∷ rest) (lists-push
 pub length_lists : (cores : List (Vec Operation)) → length (operation_lists cores) ≡ length cores
 length_lists [] = refl
 length_lists (core ∷ cores) = ap suc (length_lists cores)
-
-pub lengths_are : (cores : List (Vec Operation)) → map vec_len cores ≡ map length (operation_lists cores)
-lengths_are [] = refl
-lengths_are (core ∷ cores) =
-    let n : vec_len core ≡ length core.items = core.ok.0 in
-    ap (λ m. m ∷ map vec_len cores) n ∙ ap (λ rest. length core.items ∷ rest) (lengths_are cores)
 
 own-lists : (cores : List (Vec Operation)) (core : ℕ) (d : Vec Operation) → core < length cores
     → length (own_operations (operation_lists cores) core) ≡ vec_len (slice_index_or cores core d)

@@ -4,7 +4,6 @@
 mod fault;
 mod laws;
 mod line;
-mod logs;
 mod numeral;
 mod parsing;
 mod reader;
@@ -13,7 +12,7 @@ mod trace;
 mod written;
 
 pub use fault::TraceFault;
-pub use flat_replay::{Access, Address, Operations, replays};
+pub use flat_replay::{Access, Address, replays};
 pub use laws::{one_fault, spelled_is_read, spells_one};
 pub use line::TraceLine;
 pub use parsing::parse_line;

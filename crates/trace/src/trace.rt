@@ -1,7 +1,7 @@
 //! The operations of the cores.
 
 ghost use Rattle.std.specs.Prelude.{◌≡◌, ◌<◌, ◌≤◌, ◌↔◌, [], All, IsTrue, IfErr, IfOk, IfSome, OnOk, OnErr, length, vec_len};
-ghost use Rattle.mem_op.specs.Consistency.{operation_at};
+ghost use Rattle.mem_op.specs.Consistency as consistency;
 ghost use Rattle.mem_op.specs.Limits.{operation_limit};
 ghost use Rattle.flat_replay.specs.Accesses.{operation_lists};
 ghost use Rattle.flat_replay.specs.Accesses.{own_operations};
@@ -13,7 +13,7 @@ ghost use Rattle.trace.specs.inner.Widening.{IsWidened};
 use super::line::TraceLine;
 use super::refusal::TraceFull;
 use super::written::Written;
-use flat_replay::{Access, Operations, lengths_of};
+use flat_replay::{Access, operation_at};
 use mem_op::{CoreId, OpId};
 use std::alloc::{AllocError, Global};
 use std::marker::Model;
@@ -107,15 +107,16 @@ impl Trace {
         })
     }
 
-    /// The same operations, written in the order that this tells.
-    pub(crate) fn with_written(self, written: Written) -> Trace
+    /// The same operations, written one after the other by these cores.
+    pub fn written_by(self, cores: Vec<CoreId>) -> Trace
         ensures { result ≡ self }
     {
+        let written = Written::by(self.alloc, cores);
         Trace { written, ..self }
     }
 
-    /// The operations in the order in which they were pushed or their lines stood; if lines tell when operations ended, in that
-    /// order; those of logs in the order of their keys. Nothing is promised of it. Err if memory was refused.
+    /// The operations in the order in which they were pushed, or their lines stood, or `written_by` says that they were written; if lines
+    /// tell when operations ended, in that order. Nothing is promised of it. Err if memory was refused.
     pub fn as_written(&self, alloc: Global) -> Result<Vec<OpId>, AllocError> {
         self.written.order(alloc)
     }
@@ -130,13 +131,10 @@ impl Trace {
 
     /// The operation of an id.
     pub fn operation(&self, id: &OpId) -> Option<Access>
-        ensures found { result ≡ operation_at self.now id.now }
+        ensures found { result ≡ consistency.operation_at self.now id.now }
         ensures within { IfSome result (λ _. id.now.core < length self.now) }
     {
-        match self.cores.get(id.core.get() as usize) {
-            Some(core) => core.get(id.index.get() as usize).copied(),
-            None => None,
-        }
+        operation_at(&self.cores, id)
     }
 
     /// How many operations a core has; 0 if the trace doesn't name it.
@@ -186,18 +184,5 @@ impl Trace {
                 Ok(())
             }
         }
-    }
-}
-
-impl Operations for Trace {
-    ghost operations = { λ trace. trace };
-
-    #[tactic(auto, using(crate::proofs::Growth::lengths_are))]
-    fn lengths(&self, alloc: Global) -> Result<Vec<u64>, AllocError> {
-        lengths_of(alloc, self.cores())
-    }
-
-    fn operation(&self, id: &OpId) -> Option<Access> {
-        self.operation(id)
     }
 }

@@ -1,14 +1,13 @@
 //! In which order the operations of a trace were written. Nothing is promised of it.
 
 use super::line::end_of;
-use log_record::Record;
 use mem_op::{CoreId, OpId, OpIndex};
 use std::alloc::{AllocError, Global};
 
-/// Of each operation that was written its core, in a byte, and when it ended, where a line tells that.
+/// Of each operation that was written its core, and when it ended, where a line tells that.
 #[derive(Debug, Drop)]
 pub(crate) struct Written {
-    cores: Vec<u8>,
+    cores: Vec<CoreId>,
     /// The ends, as far as lines tell them. An operation of which none is told counts as ended with the one before it.
     ends: Vec<u64>,
 }
@@ -16,30 +15,20 @@ pub(crate) struct Written {
 impl Written {
     /// Nothing was written.
     pub(crate) fn new(alloc: Global) -> Written {
-        Written {
-            cores: Vec::new(alloc),
-            ends: Vec::new(alloc),
-        }
+        Written::by(alloc, Vec::new(alloc))
     }
 
-    /// The records of logs, in the order of their keys.
-    pub(crate) fn of_logs(alloc: Global, logs: &[Vec<Record>]) -> Result<Written, AllocError> {
-        let mut keys = Vec::new(alloc);
-        for (core, log) in (0..=u8::MAX).zip(logs) {
-            for record in log {
-                keys.push((record.ts, record.rank, core))?;
-            }
-        }
-        keys.sort_unstable();
-        Ok(Written {
-            cores: keys.iter().map(|(_, _, core)| *core).collect(alloc)?,
+    /// Operations of these cores, one after the other.
+    pub(crate) fn by(alloc: Global, cores: Vec<CoreId>) -> Written {
+        Written {
+            cores,
             ends: Vec::new(alloc),
-        })
+        }
     }
 
     /// One more operation of a core was written.
     pub(crate) fn push(&mut self, core: CoreId) -> Result<(), AllocError> {
-        self.cores.push(core.get() as u8)?;
+        self.cores.push(core)?;
         Ok(())
     }
 
@@ -70,7 +59,7 @@ impl Written {
     }
 
     /// The cores of the operations in the order of their ends.
-    fn by_end(&self, alloc: Global) -> Result<Vec<u8>, AllocError> {
+    fn by_end(&self, alloc: Global) -> Result<Vec<CoreId>, AllocError> {
         let mut lines = Vec::with_capacity(alloc, self.cores.len())?;
         for (line, core) in self.cores.iter().enumerate() {
             let end = self.ends.get(line).copied().unwrap_or(u64::MAX);
@@ -82,17 +71,15 @@ impl Written {
 }
 
 /// The operations of these cores, each core's in program order.
-fn ids(alloc: Global, cores: &[u8]) -> Result<Vec<OpId>, AllocError> {
+fn ids(alloc: Global, cores: &[CoreId]) -> Result<Vec<OpId>, AllocError> {
     let mut next = [0u64; 64];
     let mut ids = Vec::with_capacity(alloc, cores.len())?;
     for core in cores {
-        let Some(next) = next.get_mut(usize::from(*core)) else {
+        let next = &mut next[core.get() as usize];
+        let Ok(index) = OpIndex::new(*next) else {
             break;
         };
-        let (Ok(core), Ok(index)) = (CoreId::new(u64::from(*core)), OpIndex::new(*next)) else {
-            break;
-        };
-        ids.push(OpId { core, index })?;
+        ids.push(OpId { core: *core, index })?;
         *next = next.wrapping_add(1);
     }
     Ok(ids)

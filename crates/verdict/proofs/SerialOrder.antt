@@ -13,7 +13,8 @@ use Rattle.line_stamps.proofs.Ordered.{In-map, In-mapped, In-sorted, In-from_sor
 use Rattle.log_record.specs.declared.record.Record.{Record}
 use Rattle.log_record.specs.declared.record.Entry.{Entry}
 use Rattle.log_record.specs.Entries.{entry_cmp, operation_of, operations_of, entries, record_at}
-use Rattle.log_record.proofs.EntryFacts.{at, same_id, same_id-true, same_id-refl, record_of_entry, entry_of_record, same_record, Apart, apart, count_none, count_one, operation_at-operations_of}
+use Rattle.line_stamps.proofs.Ids.{same_id, same_id-true, same_id-refl, count_none, count_one}
+use Rattle.log_record.proofs.EntryFacts.{at, record_of_entry, entry_of_record, same_record, Apart, apart, operation_at-operations_of}
 use Rattle.address_check.proofs.Pairs.{EachPair-weaken}
 use Rattle.address_check.proofs.Totals.{entry_total}
 use Rattle.verdict.specs.ByKey.{by_key, ids_by_key}

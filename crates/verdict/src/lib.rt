@@ -1,6 +1,7 @@
 //! The verdict on a set of logs.
 #![tactic(auto)]
 
+mod accesses;
 mod answer;
 mod basis;
 mod cores;
@@ -17,6 +18,7 @@ mod reporting;
 mod rule;
 mod run_judging;
 
+pub use accesses::accesses_of;
 pub use address_check::{Gate, Phase};
 pub use answer::Verdict;
 pub use basis::{Basis, Examined};

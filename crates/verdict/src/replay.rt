@@ -4,6 +4,7 @@ ghost use Rattle.std.specs.Prelude.{◌↔◌, IsTrue, IfOk};
 ghost use Rattle.mem_op.specs.Consistency.{IsSequentialOrder};
 ghost use Rattle.log_record.specs.Entries.{record_lists, operations_of};
 
+use super::accesses::accesses_of;
 use flat_replay::replays;
 use log_record::Record;
 use mem_op::OpId;
@@ -16,5 +17,5 @@ pub fn replay_order(alloc: Global, order: &[OpId], logs: &[Vec<Record>]) -> Resu
     ensures { IfOk result (λ holds.
         IsTrue holds ↔ IsSequentialOrder (operations_of (record_lists logs.now)) order.now) }
 {
-    replays(alloc, &logs, order)
+    replays(alloc, &accesses_of(alloc, logs)?, order)
 }
