@@ -6,7 +6,7 @@ use Rattle.std.proofs.lemmas.Bool.Decides.{leb_tells, nat_tests}
 use Rattle.std.proofs.lemmas.List.{take_more}
 use Rattle.line_stamps.specs.Least.{lesser, least_of}
 use Rattle.line_stamps.specs.Ordered.{In}
-use Rattle.line_stamps.proofs.Ordered.{In-append_left, In-append_right, In-filter, In-filtered, In-filter_map, filter_map-In, In-flat_map, flat_map-In, same_least}
+use Rattle.line_stamps.proofs.Ordered.{In-append_left, In-append_right, In-filter, In-filtered, In-filter_map, filter_map-In, In-flat_map, flat_map-In, place_of, same_least}
 use Rattle.log_record.specs.declared.record.Entry.{Entry}
 use Rattle.address_check.specs.declared.fault.AddressFault.{AddressFault}
 use Rattle.address_check.specs.contracts.fault.AddressFaultOrd.TheImpl.{ghosts}
@@ -16,7 +16,7 @@ use Rattle.address_check.specs.declared.span.AddrSpan.{AddrSpan}
 use Rattle.address_check.specs.AddressLaw.{fault_total, least_fault_in-joined}
 use Rattle.address_check.specs.BySpan.{has_address, HaveAddress, in_span, faults_in, least_fault_in}
 use Rattle.address_check.specs.Groups.{at_address}
-use Rattle.address_check.proofs.Pairs.{place_of, filter_map-within}
+use Rattle.address_check.proofs.Pairs.{filter_map-within}
 use Rattle.address_check.proofs.Totals.{tied_faults}
 
 -- ---- an entry breaks among those at its address what it breaks among all

@@ -1,13 +1,7 @@
 -- Elements of lists by place and by membership, and a relation of each to each later one.
 use Rattle.std.proofs.Common.{◌≡◌, ℕ, suc, ◌<◌, Bool, Option, List, [], ◌∷◌, length, AllPairs, sym, ◌∙◌, subst, inl, inr, arith, get_or, filter, filter_map}
 use Rattle.line_stamps.specs.Ordered.{In, EachPair}
-use Rattle.line_stamps.proofs.Ordered.{In-filter, In-filtered, In-filter_map, filter_map-In}
-
--- where an element stands
-pub place_of : {X : Type 0} (x : X) (xs : List X) → In x xs → (k : ℕ) × (k < length xs) × ((d : X) → get_or xs k d ≡ x)
-place_of x [] h = absurd h
-place_of x (y ∷ ys) (inl e) = (0, omega arith, λ d. e)
-place_of x (y ∷ ys) (inr h) = let t = place_of x ys h in (suc t.0, (let below : t.0 < length ys = t.1 in omega arith), t.2)
+use Rattle.line_stamps.proofs.Ordered.{In-filter, In-filtered, In-filter_map, filter_map-In, place_of}
 
 pub EachPair-from_all : {X : Type 0} (R : X → X → Type 0) (xs : List X) → AllPairs R xs → EachPair R xs
 EachPair-from_all R [] h = tt

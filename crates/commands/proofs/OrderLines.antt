@@ -13,6 +13,7 @@ use Rattle.mem_op.specs.Limits.{operation_limit}
 use Rattle.mem_op.specs.declared.id.OpId.{OpId}
 use Rattle.merge_judge.specs.OrderText.{end_line, id_line, id_lines}
 use Rattle.refutation.specs.Grammar.{IdFits, id_text}
+use Rattle.refutation.proofs.Lines.{id_no_lf}
 use Rattle.text_lines.specs.Fields.{below, last_below}
 use Rattle.text_lines.specs.Items.{lines_of}
 use Rattle.text_lines.proofs.Fields.{below_again, below_is, last_below_again, last_below_takes}
@@ -38,10 +39,6 @@ id_takes line id e =
 id_again : (id : OpId) → IdFits id → id_of (id_text id) ≡ Some id
 unfolding id_of id_text
 id_again id fits = rw (field_again 46 id.core (numeral id.index) refl, below_again 64 id.core fits.0, last_below_again operation_limit id.index fits.1) refl
-
-id_no_lf : (id : OpId) → NoLf (id_text id)
-unfolding id_text
-id_no_lf id = NoLf-append (numeral id.core) (46 ∷ numeral id.index) (numeral_no_lf id.core) (refl, numeral_no_lf id.index)
 
 pub reading : IsReading id_text IdFits id_of
 reading = record { takes = id_takes; again = id_again; no_lf = id_no_lf }

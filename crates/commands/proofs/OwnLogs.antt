@@ -20,7 +20,8 @@ use Rattle.log_record.specs.Entries.{core_entries, entries, entries_from, record
 use Rattle.line_stamps.proofs.Ids.{same_id, same_id-refl, same_id-true}
 use Rattle.log_record.proofs.EntryFacts.{Apart, apart}
 use Rattle.mem_op.specs.Consistency.{is_same_id}
-use Rattle.address_check.proofs.Pairs.{EachPair-from_all, place_of}
+use Rattle.address_check.proofs.Pairs.{EachPair-from_all}
+use Rattle.address_check.proofs.Sorting.{In-permutation, same_entry}
 use Rattle.verdict.proofs.EntryLogs.{records_of_core}
 use Rattle.commands.specs.inner.ReadLogs.{own_log}
 
@@ -104,12 +105,6 @@ ascends core (x ∷ es) pairs of = (λ y h. go y (pairs.0 y h) (of x (inl refl) 
       | inl below ↦ below
       | inr above ↦ absurd (apart.1 (same_id x.id y.id same (omega (arith, above, apart.0))))
     ]
-
-abbrev same_entry : Entry → Entry → Bool
-same_entry a b = is_same_id a.id b.id
-
-In-permutation : (xs ys : List Entry) → IsPermutation xs ys → (e : Entry) → In e ys → In e xs
-In-permutation xs ys same e h = let t = place_of e ys h in subst (λ y. In y xs) (t.2 e) (All-permutation (λ y. In y xs) xs ys same (In-get_or xs) t.0 e t.1)
 
 -- a list whose elements a function gives of their places
 each : {X : Type 0} (f : ℕ → X) (a : ℕ) (xs : List X) → ((k : ℕ) (x : X) → slice_get xs k ≡ Some x → f (a + k) ≡ x) → map f (range_with_len a (length xs)) ≡ xs

@@ -1,9 +1,8 @@
 -- A trace's text read in pieces.
-use Rattle.std.proofs.Common.{◌≡◌, ◌++◌, ◌+◌, ℕ, List, Option, Err, arith, inl, inr}
-use Rattle.std.specs.Prelude.{◌-◌, ◌^◌, IsErrOf, min}
-use Rattle.std.proofs.lemmas.Bool.{cases_lt}
+use Rattle.std.proofs.Common.{◌≡◌, ◌++◌, ℕ, List, Option, Err}
+use Rattle.std.specs.Prelude.{IsErrOf}
 use Rattle.std.specs.Io.KnownBytes.{Consumes}
-use Rattle.log_file.specs.Devices.{Failed, Tells}
+use Rattle.log_file.specs.Devices.{Tells}
 use Rattle.log_file.proofs.Devices.{consumes_told, told}
 use Rattle.trace.specs.Reading.{IsSettled}
 use Rattle.trace.specs.Texts.{IsFault}
@@ -25,13 +24,6 @@ pub settled_answered : (before after : Option (List ℕ)) (bytes : List ℕ) (fa
     → (all : List ℕ) × Tells before all × IsReadOf all (Err (from_trace fault))
 settled_answered before after bytes fault consumed settled =
     (bytes ++ told after, consumes_told before after bytes consumed, fault_answered (bytes ++ told after) fault (settled (told after)))
-
--- a count that was kept and then rose by one, but for the largest, tells a failure
-pub failed_read : (old now new : ℕ) → now ≡ old → new ≡ min (now + 1) (2 ^ 64 - 1) → Failed old new
-failed_read old now new same is = elim (cases_lt old (2 ^ 64 - 1)) [
-  | inl below ↦ inl (omega (arith, below))
-  | inr above ↦ inr (omega (arith, above))
-]
 
 -- a fault of the text isn't a failed read
 pub not_unread : {T : Type 0} (fault : TraceFault) → IsErrOf {T = T} (Err (from_trace fault)) (Unread input.Trace) → ⊥

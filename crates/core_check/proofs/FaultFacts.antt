@@ -7,6 +7,7 @@ use Rattle.std.specs.Cmp.{IsTotalOrder}
 use Rattle.std.specs.Ordering.{nat_cmp, ordering_then}
 use Rattle.std.proofs.lemmas.Cmp.{nat_cmp_total, on_total, then_total}
 use Rattle.std.proofs.lemmas.Map.Lookups.{exact_unsigned}
+use Rattle.line_stamps.proofs.Keys.{both_equal}
 use Rattle.mem_op.specs.Parts.{IdParts}
 use Rattle.core_check.specs.declared.fault.CoreRule.{CoreRule}
 use Rattle.core_check.specs.declared.fault.CoreRule.TheVariants.{CoreOrder, Program}
@@ -18,11 +19,6 @@ pub core_fault_total : IsTotalOrder core_fault_cmp
 core_fault_total =
     then_total (on_total (λ f. rule_number f.rule) nat_cmp_total)
     (then_total (on_total (λ f. f.id.core) nat_cmp_total) (on_total (λ f. f.id.index) nat_cmp_total))
-
-both_equal : (r s : Ordering) → ordering_then r s ≡ Equal → (r ≡ Equal) × (s ≡ Equal)
-both_equal Less s h = cc
-both_equal Equal s h = (refl, h)
-both_equal Greater s h = cc
 
 same_rule : (a b : CoreRule) → rule_number a ≡ rule_number b → a ≡ b
 same_rule CoreOrder CoreOrder h = refl

@@ -60,7 +60,7 @@ instruction_first (Add to from value) = (λ e. omega (arith, e), λ e. omega (ar
 instruction_first (SkipIfZero tested skip) = (λ e. omega (arith, e), λ e. omega (arith, e))
 instruction_first (Swap to addr value) = (λ e. omega (arith, e), λ e. omega (arith, e))
 
-core_first : (core : ℕ) → first_of (core_text core) ≡ 99
+pub core_first : (core : ℕ) → first_of (core_text core) ≡ 99
 unfolding core_text
 core_first core = refl
 

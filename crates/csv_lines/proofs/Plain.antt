@@ -5,7 +5,7 @@ use Rattle.std.proofs.lemmas.Bool.Decides.{nat_tests}
 use Rattle.csv.specs.Quoting.{needs_byte}
 use Rattle.csv.specs.Writing.{default_writer, fields_text, row_text, is_blank}
 use Rattle.decimal_text.specs.Numbers.{numeral}
-use Rattle.decimal_text.proofs.Numbers.{AreDigits, digit_low, numeral_digits}
+use Rattle.decimal_text.proofs.Numbers.{AreDigits, digit_high, digit_low, numeral_digits}
 use Rattle.decimal_text.specs.Reading.{is_digit}
 use Rattle.std.proofs.lemmas.Bool.{and_parts, leb-true}
 use Rattle.csv_lines.specs.Lines.{IsPlain, IsPlainRow, cells_line}
@@ -15,9 +15,6 @@ plain_byte c h k = grind (arith, nat_tests)
 
 pub plain_cons : (c : ℕ) (cs : List ℕ) → needs_byte default_writer c ≡ false → IsPlain cs → IsPlain (c ∷ cs)
 plain_cons c cs h k = rw h k
-
-digit_high : (b : ℕ) → is_digit b ≡ true → b ≤ 57
-digit_high b h = leb-true b 57 (and_parts (leb 48 b) (leb b 57) h).1
 
 plain_digits : (ds rest : List ℕ) → AreDigits ds → IsPlain rest → IsPlain (ds ++ rest)
 plain_digits [] rest all h = h

@@ -26,7 +26,7 @@ NoDigit (b ∷ bs) = is_digit b ≡ false
 pub digit_low : (b : ℕ) → is_digit b ≡ true → 48 ≤ b
 digit_low b h = leb-true 48 b (and_parts (leb 48 b) (leb b 57) h).0
 
-digit_high : (b : ℕ) → is_digit b ≡ true → b ≤ 57
+pub digit_high : (b : ℕ) → is_digit b ≡ true → b ≤ 57
 digit_high b h = leb-true b 57 (and_parts (leb 48 b) (leb b 57) h).1
 
 is_digit_from : (b : ℕ) → 48 ≤ b → b ≤ 57 → is_digit b ≡ true

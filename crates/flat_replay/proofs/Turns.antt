@@ -12,7 +12,7 @@ use Rattle.std.proofs.lemmas.Option.{cond_some, slice_get_cases, slice_get_withi
 use Rattle.mem_op.specs.declared.id.OpId.{OpId}
 use Rattle.mem_op.specs.Consistency.{Operation, is_same_id, operation_at, IsSerialOrder, KeepsProgramOrder}
 use Rattle.line_stamps.specs.Ordered.{In, EachPair}
-use Rattle.line_stamps.proofs.Ordered.{AllPairs-from_each, In-filter_map, filter_map-In}
+use Rattle.line_stamps.proofs.Ordered.{AllPairs-from_each, In-filter_map, filter_map-In, place_of}
 use Rattle.line_stamps.proofs.Ids.{one_if, same_id, count_none}
 use Rattle.flat_replay.specs.Accesses.{own_operations}
 
@@ -35,11 +35,6 @@ program_order : (ids : List OpId) → KeepsProgramOrder ids → EachPair InOrder
 program_order [] h = tt
 program_order (id ∷ ids) h = (first, program_order ids (λ i j d p q. h (suc i) (suc j) d (omega arith) (omega arith)))
   where
-    place_of : (x : OpId) (xs : List OpId) → In x xs → (k : ℕ) × (k < length xs) × ((d : OpId) → get_or xs k d ≡ x)
-    place_of x [] p = absurd p
-    place_of x (y ∷ ys) (inl e) = (0, omega arith, λ d. e)
-    place_of x (y ∷ ys) (inr p) = let t = place_of x ys p in (suc t.0, (let below : t.0 < length ys = t.1 in omega arith), t.2)
-
     first : (x : OpId) → In x ids → InOrder id x
     first x p = let t = place_of x ids p in subst (InOrder id) (t.2 x) (h 0 (suc t.0) x (omega arith) (let below : t.0 < length ids = t.1 in omega arith))
 

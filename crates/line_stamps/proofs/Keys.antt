@@ -15,7 +15,7 @@ key_total =
     (then_total (on_total (λ k. k.rank) nat_cmp_total)
     (then_total (on_total (λ k. k.core) nat_cmp_total) (on_total (λ k. k.index) nat_cmp_total)))
 
-both_equal : (r s : Ordering) → ordering_then r s ≡ Equal → (r ≡ Equal) × (s ≡ Equal)
+pub both_equal : (r s : Ordering) → ordering_then r s ≡ Equal → (r ≡ Equal) × (s ≡ Equal)
 both_equal Less s h = cc
 both_equal Equal s h = (refl, h)
 both_equal Greater s h = cc

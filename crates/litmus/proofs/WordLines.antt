@@ -11,7 +11,7 @@ use Rattle.decimal_text.proofs.Reading.{bind_some}
 use Rattle.core_program.specs.declared.instruction.Instruction.{Instruction}
 use Rattle.core_program.specs.declared.instruction.Instruction.TheVariants.{Load, Store, StoreRegister, Add, SkipIfZero, Swap}
 use Rattle.core_program.specs.Grammar.{core_text, end_text, instruction_text}
-use Rattle.core_program.proofs.SetLines.{IsOther}
+use Rattle.core_program.proofs.SetLines.{IsOther, core_first}
 use Rattle.litmus.specs.TestGrammar.{forbid_text, show_text, shown_text, AreShown, IsRegister}
 use Rattle.litmus.specs.Parts.{ShownParts}
 use Rattle.litmus.specs.inner.Reading.{shown_at}
@@ -120,10 +120,6 @@ instruction_second (StoreRegister addr from) = λ e. omega (arith, e)
 instruction_second (Add to from value) = λ e. omega (arith, e)
 instruction_second (SkipIfZero tested skip) = λ e. omega (arith, e)
 instruction_second (Swap to addr value) = λ e. omega (arith, e)
-
-core_first : (core : ℕ) → first_of (core_text core) ≡ 99
-unfolding core_text
-core_first core = refl
 
 pub show_is_other : (shown : List ShownParts) → IsOther (show_text shown)
 show_is_other shown = record {

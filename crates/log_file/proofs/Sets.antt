@@ -15,9 +15,10 @@ use Rattle.log_file.specs.Answers.{IsFaultOrDevice}
 use Rattle.log_file.specs.Sets.{SpellFrom, SpellSet, SpellBefore, IsSetFault, ReaderFailed, TellEach, text_at}
 use Rattle.log_file.proofs.Devices.{told, tells_told}
 
-tell_rest : {A : Type 0} (rem : A → Option (List ℕ)) (xs : List A) → TellEach rem xs (map (λ s. told (rem s)) xs)
-tell_rest rem [] = tt
-tell_rest rem (x ∷ xs) = (tells_told (rem x), tell_rest rem xs)
+-- each reader tells what is left of it, if anything
+pub each_tells : {A : Type 0} (rem : A → Option (List ℕ)) (xs : List A) → TellEach rem xs (map (λ s. told (rem s)) xs)
+each_tells rem [] = tt
+each_tells rem (x ∷ xs) = (tells_told (rem x), each_tells rem xs)
 
 tell_append : {A : Type 0} (rem : A → Option (List ℕ)) (xs ys : List A) (ts us : List (List ℕ)) → TellEach rem xs ts
     → TellEach rem ys us → TellEach rem (xs ++ ys) (ts ++ us)
@@ -50,7 +51,7 @@ tell_whole : {A : Type 0} (rem : A → Option (List ℕ)) (xs : List A) (i : ℕ
 tell_whole rem xs i d ts t lt p q =
     subst (λ ys. TellEach rem ys (ts ++ (t ∷ map (λ s. told (rem s)) (drop (i + 1) xs)))) (split_at xs i d lt)
     (tell_append rem (take i xs) (get_or xs i d ∷ drop (i + 1) xs) ts
-    (t ∷ map (λ s. told (rem s)) (drop (i + 1) xs)) p (q, tell_rest rem (drop (i + 1) xs)))
+    (t ∷ map (λ s. told (rem s)) (drop (i + 1) xs)) p (q, each_tells rem (drop (i + 1) xs)))
 
 -- the reader at i is still as it was
 pub same_reader : {A : Type 0} (xs ys : List A) (i : ℕ) (d : A) → drop i xs ≡ drop i ys
@@ -157,7 +158,8 @@ set_done {A} rem xs i n logs le n-is far =
     let count : n ≡ length far.0 = n-is ∙ tell_length rem xs far.0 all in
     (far.0, all, subst (λ (m : ℕ). SpellFrom 0 m far.0 logs) count far.2)
 
-spelled_count : (k n : ℕ) (ts : List (List ℕ)) (logs : List (List Record)) → SpellFrom k n ts logs → length logs ≡ length ts
+-- there are as many logs as texts
+pub spelled_count : (k n : ℕ) (ts : List (List ℕ)) (logs : List (List Record)) → SpellFrom k n ts logs → length logs ≡ length ts
 spelled_count k n [] [] p = refl
 spelled_count k n [] (log ∷ logs) p = absurd p
 spelled_count k n (t ∷ ts) [] p = absurd p

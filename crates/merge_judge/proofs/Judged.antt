@@ -10,7 +10,7 @@ use Rattle.verdict.specs.Judgement.{IsAnswerTo, IsYes}
 use Rattle.verdict.specs.ByKey.{ids_by_key}
 use Rattle.merge_judge.specs.Begun.{BeginsOrder, BeginsWhole, StopsBefore}
 use Rattle.merge_judge.specs.inner.Lanes.{IsMerged}
-use Rattle.verdict.proofs.Told.{each_tells, told}
+use Rattle.log_file.proofs.Sets.{each_tells}
 use Rattle.std.specs.Io.KnownBytes.{Appends}
 use Rattle.merge_judge.specs.Answer.{IsQuietUpTo, judged}
 use Rattle.merge_judge.specs.declared.merge_fault.MergeFault.{MergeFault}
@@ -25,7 +25,7 @@ use Rattle.mem_op.specs.Consistency.{IsSequentialOrder}
 use Rattle.log_record.specs.declared.record.Record.{Record}
 use Rattle.log_record.specs.declared.record.Entry.{Entry}
 use Rattle.log_record.specs.Entries.{operations_of}
-use Rattle.log_file.proofs.Devices.{appends_more}
+use Rattle.log_file.proofs.Devices.{appends_more, told}
 use Rattle.verdict.specs.declared.answer.Verdict.{Verdict}
 use Rattle.verdict.specs.declared.answer.Verdict.TheVariants.{Yes, No}
 use Rattle.verdict.specs.FaultParts.{FaultParts}

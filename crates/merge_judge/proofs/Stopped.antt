@@ -27,7 +27,7 @@ use Rattle.verdict.specs.Faults.{from_address}
 use Rattle.verdict.proofs.SerialOrder.{in_set_by_key}
 use Rattle.verdict.specs.ByKey.{by_key}
 use Rattle.verdict.specs.Judgement.{IsYes}
-use Rattle.verdict.proofs.Told.{told}
+use Rattle.log_file.proofs.Devices.{told}
 use Rattle.merge_judge.specs.Begun.{BeginsLog, BeginsOrder, EndBefore}
 use Rattle.merge_judge.specs.OrderText.{id_lines}
 use Rattle.merge_judge.specs.LaneParts.{LaneParts}

@@ -22,7 +22,7 @@ use Rattle.text_lines.proofs.TextLines.{first_line}
 
 -- ---- no line feed
 
-id_no_lf : (id : OpId) → NoLf (id_text id)
+pub id_no_lf : (id : OpId) → NoLf (id_text id)
 unfolding id_text
 id_no_lf id = NoLf-append (numeral id.core) (46 ∷ numeral id.index) (numeral_no_lf id.core) (refl, numeral_no_lf id.index)
 

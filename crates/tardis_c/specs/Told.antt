@@ -1,7 +1,6 @@
 -- How an answer of the judge is told in numbers.
 use Rattle.std.specs.Prelude.{◌≡◌, ℕ, List, Result, Ok, Err, IsErrOf, All}
-use Rattle.log_file.specs.declared.fault.FormatFault.{FormatFault}
-use Rattle.log_file.specs.declared.fault.FormatFault.TheVariants.{BadHeader, BadLine, OutOfRange, TooMany, CountDiffers, TrailingBytes, Truncated, WrongCore}
+use Rattle.log_file.specs.Log.{number}
 use Rattle.verdict.specs.declared.answer.Verdict.{Verdict}
 use Rattle.verdict.specs.declared.answer.Verdict.TheVariants.{Yes, No}
 use Rattle.verdict.specs.declared.judge_fault.JudgeFault.{JudgeFault}
@@ -16,16 +15,6 @@ use Rattle.tardis_c.specs.declared.tardis_operation.TardisOperation.{TardisOpera
 use Rattle.tardis_c.specs.Faults.{AreOperations, IsFirstFault}
 use Rattle.tardis_c.specs.Operations.{IsOperation, logs_of}
 use Rattle.tardis_c.specs.declared.tardis_verdict.TardisVerdict.{TardisVerdict}
-
-abbrev pub number_of : FormatFault → ℕ
-number_of BadHeader = 20
-number_of BadLine = 21
-number_of OutOfRange = 22
-number_of TooMany = 23
-number_of CountDiffers = 24
-number_of TrailingBytes = 25
-number_of Truncated = 26
-number_of WrongCore = 27
 
 abbrev pub rule_number : Rule → ℕ
 rule_number CoreOrder = 1
@@ -48,7 +37,7 @@ nothing = record { count = 0; core = 0; index = 0; file = 0; line = 0; rule = 0;
 abbrev pub told_of : Result Verdict JudgeFault → TardisVerdict
 told_of (Ok (Yes count)) = record nothing { count = count }
 told_of (Ok (No fault)) = record nothing { core = fault.id.core; index = fault.id.index; rule = rule_number fault.rule }
-told_of (Err (Log file line fault)) = record nothing { file = file; line = line; number = number_of fault }
+told_of (Err (Log file line fault)) = record nothing { file = file; line = line; number = number fault }
 told_of (Err (BadConfig count)) = record nothing { number = 6 }
 told_of (Err OutOfMemory) = record nothing { number = 10 }
 told_of (Err (Read file)) = record nothing { file = file; number = 28 }

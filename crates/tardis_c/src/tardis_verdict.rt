@@ -1,7 +1,8 @@
 //! The judge's answers, in numbers.
 
 ghost use Rattle.std.specs.Prelude.{◌≡◌, Ok};
-ghost use Rattle.tardis_c.specs.Told.{number_of, operations_status, operations_told, rule_number, status_of, told_of};
+ghost use Rattle.log_file.specs.Log.{number};
+ghost use Rattle.tardis_c.specs.Told.{operations_status, operations_told, rule_number, status_of, told_of};
 
 use super::operations_fault::OperationsFault;
 use log_file::FormatFault;
@@ -42,7 +43,7 @@ const NOTHING: TardisVerdict = TardisVerdict {
 
 /// The number of a fault.
 fn number_of(fault: &FormatFault) -> u32
-    ensures { result ≡ number_of fault.now }
+    ensures { result ≡ number fault.now }
 {
     match fault {
         FormatFault::BadHeader => 20,

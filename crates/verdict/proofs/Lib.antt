@@ -9,4 +9,3 @@ pub mod Paths
 pub mod ProgramOrder
 pub mod SerialOrder
 pub mod Soundness
-pub mod Told

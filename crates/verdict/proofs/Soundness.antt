@@ -11,7 +11,8 @@ use Rattle.core_check.specs.FaultOrder.{core_fault_cmp}
 use Rattle.log_file.specs.declared.fault.LogFault.{LogFault}
 use Rattle.log_file.specs.declared.fault.LogFault.TheVariants.{At, OutOfMemory as NoMemory, Read as ReadFailed}
 use Rattle.log_file.specs.Sets.{IsSetFault, SpellFrom, SpellSet, TellEach}
-use Rattle.log_file.proofs.Sets.{spelled_at}
+use Rattle.log_file.proofs.Devices.{told}
+use Rattle.log_file.proofs.Sets.{each_tells, spelled_at, spelled_count}
 use Rattle.verdict.specs.declared.answer.Verdict.{Verdict}
 use Rattle.verdict.specs.declared.answer.Verdict.TheVariants.{Yes, No}
 use Rattle.verdict.specs.declared.basis.Examined.{Examined}
@@ -23,7 +24,6 @@ use Rattle.verdict.specs.SetFaults.{from_set}
 use Rattle.verdict.specs.Judgement.{IsAnswerAgainst, IsAnswerBy, IsReadUpTo, IsYes, OnYes, SpellConsistentSet, SpellFlatRunBy}
 use Rattle.verdict.specs.VerdictOf.{verdict_of, verdict_by, verdict_with}
 use Rattle.verdict.proofs.Bridge.{yes_by_is_consistent, run_yes_runs_flat}
-use Rattle.verdict.proofs.Told.{told, each_tells}
 
 -- a bad count answers all texts
 pub bad_count_answers : (judged : List (List Record) → Verdict) (texts : List (List ℕ)) (fault : JudgeFault) → IsBadCount fault → IsAnswerBy judged texts (Err fault)
@@ -50,18 +50,12 @@ yes_count : (verdict : Verdict) → IsYes verdict → (count : ℕ) × (verdict 
 yes_count (Yes count) h = (count, refl)
 yes_count (No fault) h = absurd h
 
--- texts spell as many logs as they are
-as_many : (core cores : ℕ) (texts : List (List ℕ)) (logs : List (List Record)) → SpellFrom core cores texts logs → length logs ≡ length texts
-as_many core cores [] [] h = refl
-as_many core cores (text ∷ texts) (log ∷ logs) h = ap suc (as_many (core + 1) cores texts logs h.1)
-as_many core cores texts logs h = absurd h
-
 -- a set that gets Yes against programs is performed by a whole run of the flat machine
 flat_by : (programs : Option (List (List Instruction))) (texts : List (List ℕ)) (logs : List (List Record)) (count : ℕ) → AreAsMany (length texts) programs → SpellSet texts logs
     → verdict_by programs logs ≡ Yes count → SpellFlatRunBy programs texts
 flat_by None texts logs count known spelled judged = tt
 flat_by (Some programs) texts logs count known spelled judged =
-    (logs, spelled, run_yes_runs_flat programs logs count known.0 (known.1 ∙ sym (as_many 0 (length texts) texts logs spelled)) judged)
+    (logs, spelled, run_yes_runs_flat programs logs count known.0 (known.1 ∙ sym (spelled_count 0 (length texts) texts logs spelled)) judged)
 
 -- ---- what is said of the texts that the readers told
 

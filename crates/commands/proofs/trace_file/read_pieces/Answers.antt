@@ -5,7 +5,8 @@ use Rattle.std.specs.Io.KnownBytes.{Consumes, IsAtEnd}
 use Rattle.log_file.proofs.Devices.{consumes_end, tells_told, told}
 use Rattle.trace.specs.Reading.{IsSettled}
 use Rattle.trace.specs.Texts.{IsFault}
-use Rattle.commands.proofs.Readings.{failed_read, fault_answered, not_unread, settled_answered}
+use Rattle.trace_replay.proofs.Readings.{failed_read}
+use Rattle.commands.proofs.Readings.{fault_answered, not_unread, settled_answered}
 use Rattle.commands.specs.Refusals.{from_trace}
 use Rattle.commands.specs.declared.refusal.Refusal.{Refusal}
 use Rattle.commands.specs.declared.refusal.Refusal.TheVariants.{OutOfMemory}

@@ -5,7 +5,8 @@ use Rattle.std.proofs.lemmas.Result.{err_from_is_err_and}
 use Rattle.verdict.specs.Judgement.{IsAnswerTo}
 use Rattle.verdict.specs.VerdictOf.{verdict_of}
 use Rattle.verdict.proofs.Soundness.{bad_count_answers}
-use Rattle.verdict.proofs.Told.{each_tells, told}
+use Rattle.log_file.proofs.Devices.{told}
+use Rattle.log_file.proofs.Sets.{each_tells}
 use Rattle.merge_judge.specs.Answer.{IsQuietUpTo, judged}
 use Rattle.merge_judge.specs.declared.merge_fault.MergeFault.{MergeFault}
 use Rattle.merge_judge.proofs.judging.merged_verdict.Goals as goal
