@@ -25,90 +25,57 @@ use Rattle.mem_op.specs.Limits.{operation_limit}
 use Rattle.mem_op.specs.declared.id.OpId.{OpId}
 use Rattle.mem_op.specs.declared.id.Source.{Source}
 use Rattle.mem_op.specs.declared.id.Source.TheVariants.{Init, Store as From}
+use Rattle.flat_replay.specs.Accesses.{operation_lists}
 use Rattle.refutation.proofs.Runs.{after-is}
+use Rattle.trace.specs.Growing.{IsOfSize}
+use Rattle.commands.proofs.LogTraces.{same_size, size_of_logs}
 use Rattle.commands.specs.Sources.{may_give, no_number, number_read, numbered, numbered_by, numbered_from, source_number, sourced_operations, store_number, stores}
 
 -- ---- one more
 
 -- record of a core
-pub record_more : (logs : List (List Record)) (core n : ℕ) (log : List Record) (d : Record) → n < length log
-    → map (numbered logs) (core_entries core 0 (take (n + 1) log)) ≡ map (numbered logs) (core_entries core 0 (take n log)) ++ numbered logs (at (record { core = core; index = n }) (get_or log n d)) ∷ []
-record_more logs core n log d below =
-    ap (map (numbered logs)) (core_more core 0 n log d below)
-    ∙ map-append (numbered logs) (core_entries core 0 (take n log)) _
-    ∙ ap (λ i. map (numbered logs) (core_entries core 0 (take n log)) ++ numbered logs (at (record { core = core; index = i }) (get_or log n d)) ∷ []) (let e : 0 + n ≡ n = omega arith in e)
+pub record_more : (cores : List (List Operation)) (core n : ℕ) (log : List Record) (d : Record) → n < length log
+    → map (numbered cores) (core_entries core 0 (take (n + 1) log)) ≡ map (numbered cores) (core_entries core 0 (take n log)) ++ numbered cores (at (record { core = core; index = n }) (get_or log n d)) ∷ []
+record_more cores core n log d below =
+    ap (map (numbered cores)) (core_more core 0 n log d below)
+    ∙ map-append (numbered cores) (core_entries core 0 (take n log)) _
+    ∙ ap (λ i. map (numbered cores) (core_entries core 0 (take n log)) ++ numbered cores (at (record { core = core; index = i }) (get_or log n d)) ∷ []) (let e : 0 + n ≡ n = omega arith in e)
 
 -- log of a set
-log_more_suc : (logs : List (List Record)) (core n : ℕ) (vs : List (Vec Record)) (d : Vec Record) → n < length vs
-    → numbered_from logs core (record_lists (take (suc n) vs)) ≡ numbered_from logs core (record_lists (take n vs)) ++ map (numbered logs) (core_entries (core + n) 0 (get_or vs n d).items) ∷ []
-log_more_suc logs core n [] d below = absurd (omega arith)
-log_more_suc logs core zero (v ∷ vs) d below = ap (λ c. map (numbered logs) (core_entries c 0 v.items) ∷ []) (let e : core ≡ core + 0 = omega arith in e)
-log_more_suc logs core (suc n) (v ∷ vs) d below =
-    ap (λ rest. map (numbered logs) (core_entries core 0 v.items) ∷ rest) (log_more_suc logs (suc core) n vs d (omega arith)
-    ∙ ap (λ c. numbered_from logs (suc core) (record_lists (take n vs)) ++ map (numbered logs) (core_entries c 0 (get_or vs n d).items) ∷ []) (let e : suc core + n ≡ core + suc n = omega arith in e))
+log_more_suc : (cores : List (List Operation)) (core n : ℕ) (vs : List (Vec Record)) (d : Vec Record) → n < length vs
+    → numbered_from cores core (record_lists (take (suc n) vs)) ≡ numbered_from cores core (record_lists (take n vs)) ++ map (numbered cores) (core_entries (core + n) 0 (get_or vs n d).items) ∷ []
+log_more_suc cores core n [] d below = absurd (omega arith)
+log_more_suc cores core zero (v ∷ vs) d below = ap (λ c. map (numbered cores) (core_entries c 0 v.items) ∷ []) (let e : core ≡ core + 0 = omega arith in e)
+log_more_suc cores core (suc n) (v ∷ vs) d below =
+    ap (λ rest. map (numbered cores) (core_entries core 0 v.items) ∷ rest) (log_more_suc cores (suc core) n vs d (omega arith)
+    ∙ ap (λ c. numbered_from cores (suc core) (record_lists (take n vs)) ++ map (numbered cores) (core_entries c 0 (get_or vs n d).items) ∷ []) (let e : suc core + n ≡ core + suc n = omega arith in e))
 
-log_more : (logs : List (List Record)) (core n : ℕ) (vs : List (Vec Record)) (d : Vec Record) → n < length vs
-    → numbered_from logs core (record_lists (take (n + 1) vs)) ≡ numbered_from logs core (record_lists (take n vs)) ++ map (numbered logs) (core_entries (core + n) 0 (get_or vs n d).items) ∷ []
-log_more logs core n vs d below = ap (λ k. numbered_from logs core (record_lists (take k vs))) (add-one n) ∙ log_more_suc logs core n vs d below
+log_more : (cores : List (List Operation)) (core n : ℕ) (vs : List (Vec Record)) (d : Vec Record) → n < length vs
+    → numbered_from cores core (record_lists (take (n + 1) vs)) ≡ numbered_from cores core (record_lists (take n vs)) ++ map (numbered cores) (core_entries (core + n) 0 (get_or vs n d).items) ∷ []
+log_more cores core n vs d below = ap (λ k. numbered_from cores core (record_lists (take k vs))) (add-one n) ∙ log_more_suc cores core n vs d below
 
 -- so the next log comes behind those that were made
-pub log_pushed : (logs : List (List Record)) (vs made : List (Vec Record)) (v d : Vec Record) (n : ℕ) → n < length vs → record_lists made ≡ numbered_from logs 0 (record_lists (take n vs))
-    → v.items ≡ map (numbered logs) (core_entries n 0 (get_or vs n d).items) → record_lists (made ++ v ∷ []) ≡ numbered_from logs 0 (record_lists (take (n + 1) vs))
-log_pushed logs vs made v d n below so_far here =
-    map-append (λ (log : Vec Record). log.items) made (v ∷ []) ∙ ap (λ (ls : List (List Record)). ls ++ v.items ∷ []) so_far
-    ∙ ap (λ (l : List Record). numbered_from logs 0 (record_lists (take n vs)) ++ l ∷ []) (here ∙ ap (λ c. map (numbered logs) (core_entries c 0 (get_or vs n d).items)) (let e : n ≡ 0 + n = omega arith in e))
-    ∙ sym (log_more logs 0 n vs d below)
+pub log_pushed : (cores : List (List Operation)) (vs : List (Vec Record)) (made : List (Vec Operation)) (v : Vec Operation) (d : Vec Record) (n : ℕ) → n < length vs → operation_lists made ≡ numbered_from cores 0 (record_lists (take n vs))
+    → v.items ≡ map (numbered cores) (core_entries n 0 (get_or vs n d).items) → operation_lists (made ++ v ∷ []) ≡ numbered_from cores 0 (record_lists (take (n + 1) vs))
+log_pushed cores vs made v d n below so_far here =
+    map-append (λ (core : Vec Operation). core.items) made (v ∷ []) ∙ ap (λ (ls : List (List Operation)). ls ++ v.items ∷ []) so_far
+    ∙ ap (λ (l : List Operation). numbered_from cores 0 (record_lists (take n vs)) ++ l ∷ []) (here ∙ ap (λ c. map (numbered cores) (core_entries c 0 (get_or vs n d).items)) (let e : n ≡ 0 + n = omega arith in e))
+    ∙ sym (log_more cores 0 n vs d below)
 
 -- ---- how many
 
-long_from : (logs : List (List Record)) (core : ℕ) (more : List (List Record)) → length (numbered_from logs core more) ≡ length more
-long_from logs core [] = refl
-long_from logs core (log ∷ more) = ap suc (long_from logs (suc core) more)
+-- as many operations as records
+pub lengths_from : (cores : List (List Operation)) (core : ℕ) (logs : List (List Record)) → map length (numbered_from cores core logs) ≡ map length (operations_of logs)
+lengths_from cores core [] = refl
+lengths_from cores core (log ∷ logs) =
+    ap (λ n. n ∷ map length (numbered_from cores (suc core) logs)) (length-map (core_entries core 0 log) (numbered cores) ∙ length-core_entries core 0 log ∙ sym (length-map log operation_of))
+    ∙ ap (λ ns. length (map operation_of log) ∷ ns) (lengths_from cores (suc core) logs)
 
-short_from : (logs : List (List Record)) (core : ℕ) (more : List (List Record)) → All (λ log. length log ≤ operation_limit) more → All (λ log. length log ≤ operation_limit) (numbered_from logs core more)
-short_from logs core [] short k d below = absurd (omega arith)
-short_from logs core (log ∷ more) short zero d below =
-    let long = length-map (core_entries core 0 log) (numbered logs) in
-    let as_many = length-core_entries core 0 log in
-    let few : length log ≤ operation_limit = short zero log (omega arith) in
-    omega arith
-short_from logs core (log ∷ more) short (suc k) d below =
-    short_from logs (suc core) more (λ j e under. short (suc j) e (omega (arith, under))) k d (omega (arith, below))
-
--- of vectors that hold a list of lists each is as short as its list
-pub vecs_short : (vs : List (Vec Record)) (lists : List (List Record)) → record_lists vs ≡ lists → All (λ log. length log ≤ operation_limit) lists → All (λ log. vec_len log ≤ operation_limit) vs
-vecs_short [] lists same short k d below = absurd (omega arith)
-vecs_short (v ∷ vs) [] same short k d below = absurd (let e : v.items ∷ record_lists vs ≡ [] = same in cc)
-vecs_short (v ∷ vs) (list ∷ lists) same short zero d below =
-    let e : v.items ∷ record_lists vs ≡ list ∷ lists = same in
-    let is : v.items ≡ list = cc in
-    let few : length v.items ≤ operation_limit = subst (λ (l : List Record). length l ≤ operation_limit) (sym is) (short zero list (omega arith)) in
-    let filled = v.ok in
-    omega (arith, few, filled)
-vecs_short (v ∷ vs) (list ∷ lists) same short (suc k) d below =
-    let e : v.items ∷ record_lists vs ≡ list ∷ lists = same in
-    let rest : record_lists vs ≡ lists = cc in
-    vecs_short vs lists rest (λ j e under. short (suc j) e (omega (arith, under))) k d (omega (arith, below))
-
-pub lists_short : (vs : List (Vec Record)) → All (λ log. vec_len log ≤ operation_limit) vs → All (λ log. length log ≤ operation_limit) (record_lists vs)
-lists_short [] short k d below = absurd (omega arith)
-lists_short (v ∷ vs) short zero d below =
-    let few : vec_len v ≤ operation_limit = short zero v (omega arith) in
-    let filled = v.ok in
-    omega (arith, few, filled)
-lists_short (v ∷ vs) short (suc k) d below = lists_short vs (λ j e under. short (suc j) e (omega (arith, under))) k d (omega (arith, below))
-
--- so a set with sources in place of words isn't too large for a trace
-pub made_few : (logs made : List (Vec Record)) → record_lists made ≡ numbered_from (record_lists logs) 0 (record_lists logs) → length logs ≤ 64 → length made ≤ 64
-made_few logs made same few =
-    let a : length (record_lists made) ≡ length (record_lists logs) = ap length same ∙ long_from (record_lists logs) 0 (record_lists logs) in
-    let b = length-map made (λ (log : Vec Record). log.items) in
-    let c = length-map logs (λ (log : Vec Record). log.items) in
-    omega (arith, a, b, c, few)
-
-pub made_short : (logs made : List (Vec Record)) → record_lists made ≡ numbered_from (record_lists logs) 0 (record_lists logs) → All (λ log. vec_len log ≤ operation_limit) logs → All (λ log. vec_len log ≤ operation_limit) made
-made_short logs made same short =
-    vecs_short made (numbered_from (record_lists logs) 0 (record_lists logs)) same (short_from (record_lists logs) 0 (record_lists logs) (lists_short logs short))
+-- so such operations fit into a trace
+pub fits : (made : List (Vec Operation)) (cores : List (List Operation)) (logs : List (Vec Record)) → operation_lists made ≡ numbered_from cores 0 (record_lists logs) → length logs ≤ 64
+    → All (λ log. vec_len log ≤ operation_limit) logs → IsOfSize (operation_lists made)
+fits made cores logs is few short =
+    same_size (operations_of (record_lists logs)) (operation_lists made) (ap (map length) is ∙ lengths_from cores 0 (record_lists logs)) (size_of_logs logs few short)
 
 -- ---- what stands at an id
 
@@ -118,55 +85,47 @@ entry_at core i (r ∷ log) zero = ap (λ j. Some (at (record { core = core; ind
 entry_at core i (r ∷ log) (suc k) =
     entry_at core (suc i) log k ∙ ap (λ j. option_map (λ r. at (record { core = core; index = j }) r) (slice_get log k)) (let e : suc i + k ≡ i + suc k = omega arith in e)
 
-log_at : (logs : List (List Record)) (core : ℕ) (more : List (List Record)) (k : ℕ) → slice_get (numbered_from logs core more) k ≡ option_map (λ log. map (numbered logs) (core_entries (core + k) 0 log)) (slice_get more k)
-log_at logs core [] k = refl
-log_at logs core (log ∷ more) zero = ap (λ c. Some (map (numbered logs) (core_entries c 0 log))) (let e : core ≡ core + 0 = omega arith in e)
-log_at logs core (log ∷ more) (suc k) =
-    log_at logs (suc core) more k ∙ ap (λ c. option_map (λ log. map (numbered logs) (core_entries c 0 log)) (slice_get more k)) (let e : suc core + k ≡ core + suc k = omega arith in e)
+log_at : (cores : List (List Operation)) (core : ℕ) (more : List (List Record)) (k : ℕ) → slice_get (numbered_from cores core more) k ≡ option_map (λ log. map (numbered cores) (core_entries (core + k) 0 log)) (slice_get more k)
+log_at cores core [] k = refl
+log_at cores core (log ∷ more) zero = ap (λ c. Some (map (numbered cores) (core_entries c 0 log))) (let e : core ≡ core + 0 = omega arith in e)
+log_at cores core (log ∷ more) (suc k) =
+    log_at cores (suc core) more k ∙ ap (λ c. option_map (λ log. map (numbered cores) (core_entries c 0 log)) (slice_get more k)) (let e : suc core + k ≡ core + suc k = omega arith in e)
 
--- the operation with numbers of a record
-abbrev number_of : List (List Record) → OpId → Record → Operation
-number_of logs id r = operation_of (numbered logs (at id r))
-
-pub numbered_at : (logs : List (List Record)) (id : OpId) → record_at (numbered_from logs 0 logs) id ≡ option_map (λ r. numbered logs (at id r)) (record_at logs id)
-numbered_at logs id = ap (option_and_then (λ log. slice_get log id.index)) (log_at logs 0 logs id.core) ∙ go (slice_get logs id.core)
+-- the operation with numbers at an id is that of its record
+numbered_at : (cores : List (List Operation)) (logs : List (List Record)) (id : OpId) → operation_at (numbered_from cores 0 logs) id ≡ option_map (λ r. numbered cores (at id r)) (record_at logs id)
+numbered_at cores logs id = ap (option_and_then (λ ops. slice_get ops id.index)) (log_at cores 0 logs id.core) ∙ go (slice_get logs id.core)
   where
-    of_record : (o : Option Record) → option_map (numbered logs) (option_map (λ r. at (record { core = 0 + id.core; index = 0 + id.index }) r) o) ≡ option_map (λ r. numbered logs (at id r)) o
+    of_record : (o : Option Record) → option_map (numbered cores) (option_map (λ r. at (record { core = 0 + id.core; index = 0 + id.index }) r) o) ≡ option_map (λ r. numbered cores (at id r)) o
     of_record None = refl
-    of_record (Some r) = ap (λ (i : OpId). Some (numbered logs (at i r))) (same_id (record { core = 0 + id.core; index = 0 + id.index }) id (omega arith) (omega arith))
+    of_record (Some r) = ap (λ (i : OpId). Some (numbered cores (at i r))) (same_id (record { core = 0 + id.core; index = 0 + id.index }) id (omega arith) (omega arith))
 
-    go : (o : Option (List Record)) → option_and_then (λ log. slice_get log id.index) (option_map (λ log. map (numbered logs) (core_entries (0 + id.core) 0 log)) o)
-        ≡ option_map (λ r. numbered logs (at id r)) (option_and_then (λ log. slice_get log id.index) o)
+    go : (o : Option (List Record)) → option_and_then (λ ops. slice_get ops id.index) (option_map (λ log. map (numbered cores) (core_entries (0 + id.core) 0 log)) o)
+        ≡ option_map (λ r. numbered cores (at id r)) (option_and_then (λ log. slice_get log id.index) o)
     go None = refl
     go (Some log) =
-        slice_get-map (numbered logs) (core_entries (0 + id.core) 0 log) id.index ∙ ap (option_map (numbered logs)) (entry_at (0 + id.core) 0 log id.index) ∙ of_record (slice_get log id.index)
-
-number_at : (logs : List (List Record)) (id : OpId) → operation_at (sourced_operations logs) id ≡ option_map (number_of logs id) (record_at logs id)
-number_at logs id = operation_at-operations_of (numbered_from logs 0 logs) id ∙ ap (option_map operation_of) (numbered_at logs id) ∙ go (record_at logs id)
-  where
-    go : (o : Option Record) → option_map operation_of (option_map (λ r. numbered logs (at id r)) o) ≡ option_map (number_of logs id) o
-    go None = refl
-    go (Some r) = refl
+        slice_get-map (numbered cores) (core_entries (0 + id.core) 0 log) id.index ∙ ap (option_map (numbered cores)) (entry_at (0 + id.core) 0 log id.index) ∙ of_record (slice_get log id.index)
 
 -- ---- numbers
 
 -- a store is one to the same address, and leaves its number there
-same_stores : (logs : List (List Record)) (id : OpId) (value ts rank addr : ℕ) (act : Act) (a : ℕ)
-    → is_store_to a (operation_of (numbered_by logs id (record { value = value; ts = ts; rank = rank; addr = addr; act = act }) act)) ≡ is_store_to a (operation_by act addr value)
-same_stores logs id value ts rank addr (Load source) a = refl
-same_stores logs id value ts rank addr Store a = refl
-same_stores logs id value ts rank addr (Swap source read) a = refl
+same_stores : (cores : List (List Operation)) (id : OpId) (addr value : ℕ) (act : Act) (a : ℕ) → is_store_to a (numbered_by cores id addr value act) ≡ is_store_to a (operation_by act addr value)
+same_stores cores id addr value (Load source) a = refl
+same_stores cores id addr value Store a = refl
+same_stores cores id addr value (Swap source read) a = refl
 
-leaves_number : (logs : List (List Record)) (id : OpId) (value ts rank addr : ℕ) (act : Act) (a : ℕ) → is_store_to a (operation_by act addr value) ≡ true
-    → word_left (operation_of (numbered_by logs id (record { value = value; ts = ts; rank = rank; addr = addr; act = act }) act)) ≡ store_number id
-leaves_number logs id value ts rank addr (Load source) a is = absurd (let wrong : false ≡ true = is in cc)
-leaves_number logs id value ts rank addr Store a is = refl
-leaves_number logs id value ts rank addr (Swap source read) a is = refl
+leaves_number : (cores : List (List Operation)) (id : OpId) (addr value : ℕ) (act : Act) (a : ℕ) → is_store_to a (operation_by act addr value) ≡ true
+    → word_left (numbered_by cores id addr value act) ≡ store_number id
+leaves_number cores id addr value (Load source) a is = absurd (let wrong : false ≡ true = is in cc)
+leaves_number cores id addr value Store a is = refl
+leaves_number cores id addr value (Swap source read) a is = refl
 
 clash : (b : Bool) → b ≡ true → b ≡ false → ⊥
 clash b is isnt = let wrong : true ≡ false = sym is ∙ isnt in cc
 
 module _ (logs : List (List Record)) (few : length logs ≤ 64) (short : All (λ log. length log ≤ operation_limit) logs) where
+  abbrev worded : List (List Operation)
+  worded = operations_of logs
+
   -- an id that stands in the set is in range
   in_range : (id : OpId) (r : Record) → record_at logs id ≡ Some r → (id.core < 64) × (id.index < 1048576)
   in_range id r there = go (slice_get logs id.core) refl there
@@ -189,24 +148,25 @@ module _ (logs : List (List Record)) (few : length logs ≤ 64) (short : All (λ
       same_id a b (omega (arith, p, q, n)) (omega (arith, p, q, n))
 
   -- a read of 0 read the initial 0
-  zero_of : (source : Source) (addr word : ℕ) → may_give logs source addr word ≡ true → source_number source ≡ 0 → word ≡ 0
+  zero_of : (source : Source) (addr word : ℕ) → may_give worded source addr word ≡ true → source_number source ≡ 0 → word ≡ 0
   zero_of Init addr word gives is = eqb-true word 0 gives
   zero_of (From id) addr word gives is = absurd (let n : 1 + id.core * 1048576 + id.index ≡ 0 = is in omega (arith, n))
 
-  reads_zero : (source : Source) (addr word : ℕ) → number_read logs source addr word ≡ 0 → word ≡ 0
-  reads_zero source addr word is = go (may_give logs source addr word) refl is
+  reads_zero : (source : Source) (addr word : ℕ) → number_read worded source addr word ≡ 0 → word ≡ 0
+  reads_zero source addr word is = go (may_give worded source addr word) refl is
     where
-      go : (b : Bool) → may_give logs source addr word ≡ b → (if b then source_number source else no_number) ≡ 0 → word ≡ 0
+      go : (b : Bool) → may_give worded source addr word ≡ b → (if b then source_number source else no_number) ≡ 0 → word ≡ 0
       go false gives is = absurd (let n : 18446744073709551615 ≡ 0 = is in omega (arith, n))
       go true gives is = zero_of source addr word gives is
 
   -- and one of a store's number read the word of that store
-  word_of : (source : Source) (addr word : ℕ) (id : OpId) (r : Record) → record_at logs id ≡ Some r → may_give logs source addr word ≡ true → source_number source ≡ store_number id
+  word_of : (source : Source) (addr word : ℕ) (id : OpId) (r : Record) → record_at logs id ≡ Some r → may_give worded source addr word ≡ true → source_number source ≡ store_number id
       → word_left (operation_of r) ≡ word
   word_of Init addr word id r there gives is = absurd (let n : 0 ≡ 1 + id.core * 1048576 + id.index = is in omega (arith, n))
-  word_of (From other) addr word id r there gives is = by_record (record_at logs other) refl gives
+  word_of (From other) addr word id r there gives is =
+      by_record (record_at logs other) refl (subst (λ (o : Option Operation). option_map_or (stores addr word) o false ≡ true) (operation_at-operations_of logs other) gives)
     where
-      by_record : (o : Option Record) → record_at logs other ≡ o → option_map_or (λ s. stores addr word (operation_of s)) o false ≡ true → word_left (operation_of r) ≡ word
+      by_record : (o : Option Record) → record_at logs other ≡ o → option_map_or (stores addr word) (option_map operation_of o) false ≡ true → word_left (operation_of r) ≡ word
       by_record None at_other gives = absurd (clash false gives refl)
       by_record (Some s) at_other gives =
           let same : other ≡ id = one_number other id s r at_other there is in
@@ -215,10 +175,10 @@ module _ (logs : List (List Record)) (few : length logs ≤ 64) (short : All (λ
           let parts = and_parts (is_store_to addr (operation_of s)) (word_left (operation_of s) == word) gives in
           ap (λ (x : Record). word_left (operation_of x)) (sym one) ∙ eqb-true _ _ parts.1
 
-  reads_store : (source : Source) (addr word : ℕ) (id : OpId) (r : Record) → record_at logs id ≡ Some r → number_read logs source addr word ≡ store_number id → word_left (operation_of r) ≡ word
-  reads_store source addr word id r there is = go (may_give logs source addr word) refl is
+  reads_store : (source : Source) (addr word : ℕ) (id : OpId) (r : Record) → record_at logs id ≡ Some r → number_read worded source addr word ≡ store_number id → word_left (operation_of r) ≡ word
+  reads_store source addr word id r there is = go (may_give worded source addr word) refl is
     where
-      go : (b : Bool) → may_give logs source addr word ≡ b → (if b then source_number source else no_number) ≡ store_number id → word_left (operation_of r) ≡ word
+      go : (b : Bool) → may_give worded source addr word ≡ b → (if b then source_number source else no_number) ≡ store_number id → word_left (operation_of r) ≡ word
       go false gives is = absurd (
           let p = in_range id r there in
           let core : id.core < 64 = p.0 in
@@ -231,9 +191,6 @@ module _ (logs : List (List Record)) (few : length logs ≤ 64) (short : All (λ
 
 abbrev word_by : Entry → Operation
 word_by e = operation_of e.logged
-
-abbrev number_by : List (List Record) → Entry → Operation
-number_by logs e = operation_of (numbered logs e)
 
 -- the records by the ids of an order
 abbrev placed : List (List Record) → List OpId → List Entry
@@ -268,7 +225,7 @@ module _ (logs : List (List Record)) (few : length logs ≤ 64) (short : All (λ
   words = map word_by es
 
   abbrev numbers : List Operation
-  numbers = map (number_by logs) es
+  numbers = map (numbered (operations_of logs)) es
 
   by_place : (of : Entry → Operation) (k : ℕ) (e : Entry) → slice_get es k ≡ Some e → slice_get (map of es) k ≡ Some (of e)
   by_place of k e here = slice_get-map of es k ∙ ap (option_map of) here
@@ -286,14 +243,14 @@ module _ (logs : List (List Record)) (few : length logs ≤ 64) (short : All (λ
         let here = found.2 in
         let r = e.logged in
         let word = last_value-push addr words k (word_by e) (by_place word_by k e here) in
-        let number = last_value-push addr numbers k (number_by logs e) (by_place (number_by logs) k e here) in
-        let both = same_stores logs e.id r.value r.ts r.rank r.addr r.act addr in
+        let number = last_value-push addr numbers k (numbered (operations_of logs) e) (by_place (numbered (operations_of logs)) k e here) in
+        let both = same_stores (operations_of logs) e.id r.addr r.value r.act addr in
         elim (cases_Bool (is_store_to addr (word_by e))) [
           | inl does ↦ inr (
             e,
             In-slice_get e es k here,
             word ∙ cond-true _ _ _ does,
-            number ∙ cond-true _ _ _ (both ∙ does) ∙ leaves_number logs e.id r.value r.ts r.rank r.addr r.act addr does,
+            number ∙ cond-true _ _ _ (both ∙ does) ∙ leaves_number (operations_of logs) e.id r.addr r.value r.act addr does,
           )
           | inr isnt ↦ subst (AreOf _) (sym (number ∙ cond-false _ _ _ (both ∙ isnt)))
               (subst (λ w. AreOf w (last_value addr (take k numbers))) (sym (word ∙ cond-false _ _ _ isnt)) (lasts addr k (omega arith)))
@@ -301,7 +258,7 @@ module _ (logs : List (List Record)) (few : length logs ≤ 64) (short : All (λ
   ]
 
   -- what is read is the last word
-  read_right : (k addr word : ℕ) (source : Source) → k ≤ length es → number_read logs source addr word ≡ last_value addr (take k numbers) → word ≡ last_value addr (take k words)
+  read_right : (k addr word : ℕ) (source : Source) → k ≤ length es → number_read (operations_of logs) source addr word ≡ last_value addr (take k numbers) → word ≡ last_value addr (take k words)
   read_right k addr word source l reads = elim (lasts addr k l) [
     | inl none ↦ reads_zero logs few short source addr word (reads ∙ none.1) ∙ sym none.0
     | inr one ↦ sym (reads_store logs few short source addr word one.0.id one.0.logged (each one.0 one.1) (reads ∙ one.3)) ∙ sym one.2
@@ -309,41 +266,41 @@ module _ (logs : List (List Record)) (few : length logs ≤ 64) (short : All (λ
 
   module _ (flat : GivesFlatAnswers numbers) where
     -- a load, by its record
-    load_right : (k addr word : ℕ) (id : OpId) (value ts rank a : ℕ) (act : Act) → k ≤ length es
-        → slice_get numbers k ≡ Some (operation_of (numbered_by logs id (record { value = value; ts = ts; rank = rank; addr = a; act = act }) act))
+    load_right : (k addr word : ℕ) (id : OpId) (a value : ℕ) (act : Act) → k ≤ length es
+        → slice_get numbers k ≡ Some (numbered_by (operations_of logs) id a value act)
         → operation_by act a value ≡ Loaded addr word → word ≡ last_value addr (take k words)
-    load_right k addr word id value ts rank a (Load source) l here is =
+    load_right k addr word id a value (Load source) l here is =
         let e : Loaded a value ≡ Loaded addr word = is in
         let a-is : a ≡ addr = cc in
         let v-is : value ≡ word = cc in
-        let right : value ≡ last_value a (take k words) = read_right k a value source l (flat.loads k a (number_read logs source a value) here) in
+        let right : value ≡ last_value a (take k words) = read_right k a value source l (flat.loads k a (number_read (operations_of logs) source a value) here) in
         sym v-is ∙ right ∙ ap (λ x. last_value x (take k words)) a-is
-    load_right k addr word id value ts rank a Store l here is = absurd (let e : Stored a value ≡ Loaded addr word = is in cc)
-    load_right k addr word id value ts rank a (Swap source read) l here is = absurd (let e : Swapped a read value ≡ Loaded addr word = is in cc)
+    load_right k addr word id a value Store l here is = absurd (let e : Stored a value ≡ Loaded addr word = is in cc)
+    load_right k addr word id a value (Swap source read) l here is = absurd (let e : Swapped a read value ≡ Loaded addr word = is in cc)
 
-    swap_right : (k addr word stored : ℕ) (id : OpId) (value ts rank a : ℕ) (act : Act) → k ≤ length es
-        → slice_get numbers k ≡ Some (operation_of (numbered_by logs id (record { value = value; ts = ts; rank = rank; addr = a; act = act }) act))
+    swap_right : (k addr word stored : ℕ) (id : OpId) (a value : ℕ) (act : Act) → k ≤ length es
+        → slice_get numbers k ≡ Some (numbered_by (operations_of logs) id a value act)
         → operation_by act a value ≡ Swapped addr word stored → word ≡ last_value addr (take k words)
-    swap_right k addr word stored id value ts rank a (Load source) l here is = absurd (let e : Loaded a value ≡ Swapped addr word stored = is in cc)
-    swap_right k addr word stored id value ts rank a Store l here is = absurd (let e : Stored a value ≡ Swapped addr word stored = is in cc)
-    swap_right k addr word stored id value ts rank a (Swap source read) l here is =
+    swap_right k addr word stored id a value (Load source) l here is = absurd (let e : Loaded a value ≡ Swapped addr word stored = is in cc)
+    swap_right k addr word stored id a value Store l here is = absurd (let e : Stored a value ≡ Swapped addr word stored = is in cc)
+    swap_right k addr word stored id a value (Swap source read) l here is =
         let e : Swapped a read value ≡ Swapped addr word stored = is in
         let a-is : a ≡ addr = cc in
         let r-is : read ≡ word = cc in
-        let right : read ≡ last_value a (take k words) = read_right k a read source l (flat.swaps k a (number_read logs source a read) (store_number id) here) in
+        let right : read ≡ last_value a (take k words) = read_right k a read source l (flat.swaps k a (number_read (operations_of logs) source a read) (store_number id) here) in
         sym r-is ∙ right ∙ ap (λ x. last_value x (take k words)) a-is
 
     record Here (k : ℕ) (y : Operation) : Type 0 where
       e : Entry
       within : k ≤ length es
-      number : slice_get numbers k ≡ Some (number_by logs e)
+      number : slice_get numbers k ≡ Some (numbered (operations_of logs) e)
       is : word_by e ≡ y
 
     entry_here : (k : ℕ) (y : Operation) → slice_get words k ≡ Some y → Here k y
     entry_here k y is = elim (slice_get_cases es k).1 [
       | inl found ↦ (
           let low = found.1 in
-          record { e = found.0; within = omega arith; number = by_place (number_by logs) k found.0 found.2; is = same_Some (word_by found.0) y (sym (by_place word_by k found.0 found.2) ∙ is) })
+          record { e = found.0; within = omega arith; number = by_place (numbered (operations_of logs)) k found.0 found.2; is = same_Some (word_by found.0) y (sym (by_place word_by k found.0 found.2) ∙ is) })
       | inr past ↦ absurd (let none = sym is ∙ slice_get-map word_by es k ∙ ap (option_map word_by) past.1 in cc)
     ]
 
@@ -352,22 +309,22 @@ module _ (logs : List (List Record)) (few : length logs ≤ 64) (short : All (λ
       loads = λ k addr word is. (
           let h = entry_here k (Loaded addr word) is in
           let r = h.e.logged in
-          load_right k addr word h.e.id r.value r.ts r.rank r.addr r.act h.within h.number h.is);
+          load_right k addr word h.e.id r.addr r.value r.act h.within h.number h.is);
       swaps = λ k addr word stored is. (
           let h = entry_here k (Swapped addr word stored) is in
           let r = h.e.logged in
-          swap_right k addr word stored h.e.id r.value r.ts r.rank r.addr r.act h.within h.number h.is);
+          swap_right k addr word stored h.e.id r.addr r.value r.act h.within h.number h.is);
     }
 
 pub order_explains : (logs : List (List Record)) (order : List OpId) → length logs ≤ 64 → All (λ log. length log ≤ operation_limit) logs
     → IsSequentialOrder (sourced_operations logs) order → IsSequentialOrder (operations_of logs) order
 order_explains logs order few short sequential = record {
-  serial = λ id. sequential.serial id ∙ ap (λ b. if b then 1 else 0) (ap is_some (number_at logs id) ∙ both (record_at logs id) id ∙ sym (ap is_some (operation_at-operations_of logs id)));
+  serial = λ id. sequential.serial id ∙ ap (λ b. if b then 1 else 0) (ap is_some (numbered_at (operations_of logs) logs id) ∙ both (record_at logs id) id ∙ sym (ap is_some (operation_at-operations_of logs id)));
   program = sequential.program;
   flat = subst GivesFlatAnswers (sym (by_entry logs (operations_of logs) word_by (operation_at-operations_of logs) order))
-      (words_right logs few short (placed logs order) (placed_is logs order) (subst GivesFlatAnswers (by_entry logs (sourced_operations logs) (number_by logs) (number_at logs) order) sequential.flat));
+      (words_right logs few short (placed logs order) (placed_is logs order) (subst GivesFlatAnswers (by_entry logs (sourced_operations logs) (numbered (operations_of logs)) (numbered_at (operations_of logs) logs) order) sequential.flat));
 }
   where
-    both : (o : Option Record) (id : OpId) → is_some (option_map (number_of logs id) o) ≡ is_some (option_map operation_of o)
+    both : (o : Option Record) (id : OpId) → is_some (option_map (λ r. numbered (operations_of logs) (at id r)) o) ≡ is_some (option_map operation_of o)
     both None id = refl
     both (Some r) id = refl

@@ -14,6 +14,7 @@ mod inspect_files;
 mod left;
 mod litmus_files;
 mod log_files;
+mod log_traces;
 mod more;
 mod order_certificate;
 mod order_files;

@@ -1,22 +1,19 @@
-//! The logs in files, and their trace.
+//! The logs in files.
 
 ghost use Rattle.std.specs.Prelude.{◌≡◌, ◌≤◌, All, IfErr, IfOk, length, vec_len, OnOk};
 ghost use Rattle.verdict.specs.Counts.{IsInRange};
 ghost use Rattle.mem_op.specs.Limits.{operation_limit};
-ghost use Rattle.log_record.specs.Entries.{operations_of, record_lists};
+ghost use Rattle.log_record.specs.Entries.{record_lists};
 ghost use Rattle.host_files.specs.Files.{IsOnlyRead, IsUnread};
 ghost use Rattle.commands.specs.LogFiles.{AreSourcesOf, IsLeft, IsOpenFault, Spelled};
 ghost use Rattle.commands.specs.Refusals.{from_judge};
 ghost use Rattle.commands.specs.inner.ReadTraces.{AreLogless};
 
 use host_files::Folder;
-use line_stamps::{Rank, Stamp};
 use log_file::{LogSet, ReadFault};
 use log_record::Record;
-use mem_op::CoreId;
-use std::alloc::{AllocError, Global};
-use trace::{Trace, TraceFull};
-use verdict::{JudgeFault, accesses_of, check_counts};
+use std::alloc::Global;
+use verdict::{JudgeFault, check_counts};
 
 /// Opens the files of these names in their order: 6 if they aren't 1 to 64, before one is opened, and 28 for the first that can't be
 /// opened.
@@ -68,41 +65,4 @@ pub(crate) fn read_log_files<F: Folder>(
     let mut sources = open_all(alloc, folder, names)?;
     let set = LogSet::read(alloc, sources.as_mut_slice())?;
     Ok(set.logs(alloc)?)
-}
-
-/// Adds the keys of a core's log.
-fn push_keys(
-    keys: &mut Vec<(Stamp, Rank, CoreId)>,
-    core: CoreId,
-    log: &[Record],
-) -> Result<(), AllocError> {
-    for record in log {
-        keys.push((record.ts, record.rank, core))?;
-    }
-    Ok(())
-}
-
-/// The cores of the records of logs, in the order of their keys.
-fn cores_by_key(alloc: Global, logs: &[Vec<Record>]) -> Result<Vec<CoreId>, AllocError>
-    requires { length logs.now ≤ 64 }
-{
-    let mut keys = Vec::new(alloc);
-    for (core, log) in logs.iter().enumerate() {
-        push_keys(&mut keys, CoreId::at(core), log)?;
-    }
-    keys.sort_unstable();
-    keys.iter().map(|(_, _, core)| *core).collect(alloc)
-}
-
-/// The trace of logs, written in the order of their keys. Err if memory was refused.
-pub(crate) fn trace_of(alloc: Global, logs: &[Vec<Record>]) -> Result<Trace, AllocError>
-    requires few { length logs.now ≤ 64 }
-    requires short { All (λ log. vec_len log ≤ operation_limit) logs.now }
-    ensures { IfOk result (λ trace. trace ≡ operations_of (record_lists logs.now)) }
-{
-    match Trace::of(alloc, accesses_of(alloc, logs)?) {
-        Ok(trace) => Ok(trace.written_by(cores_by_key(alloc, logs)?)),
-        Err(TraceFull::OutOfMemory) => Err(AllocError),
-        Err(TraceFull::TooMany) => unreachable!(),
-    }
 }

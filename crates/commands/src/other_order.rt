@@ -9,7 +9,7 @@ ghost use Rattle.commands.specs.inner.ReadLogs.{AreLogsOf};
 ghost use Rattle.refutation.specs.Answers.{IsRight};
 
 use super::basis_logs::{logs_of, records_in};
-use super::log_files::trace_of;
+use super::log_traces::trace_of;
 use super::sources::sourced_trace;
 use refutation::Answer;
 use refuted_cases::Names;
@@ -94,8 +94,9 @@ fn whether_another<W: SearchWatch>(
         → IfOk result (λ text. TellsSourced (sourced_operations logs) (operations_of logs) (string_bytes text)) }
 {
     let logs = logs_of(alloc, basis, cores)?;
-    let sourced = sourced_trace(alloc, logs.as_slice())?;
-    let trace = trace_of(alloc, logs.as_slice())?;
+    let logs = logs.as_slice();
+    let trace = trace_of(alloc, logs)?;
+    let sourced = sourced_trace(alloc, &trace, logs)?;
     whether_by_sources(alloc, watch, names, &sourced, &trace)
 }
 

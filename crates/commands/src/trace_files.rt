@@ -6,7 +6,8 @@ ghost use Rattle.verdict.specs.Counts.{IsInRange};
 ghost use Rattle.commands.specs.Traces as traces;
 ghost use Rattle.commands.specs.inner.ReadTraces.{AreLogless};
 
-use super::log_files::{read_log_files, trace_of};
+use super::log_files::read_log_files;
+use super::log_traces::trace_of;
 use super::refusal::Refusal;
 use super::sources::sourced_trace;
 use super::trace_file::read_trace;
@@ -110,7 +111,9 @@ fn read_sourced<F: Folder>(
     ensures read { IsOnlyRead (F.files folder.old) (F.files folder.new) }
 {
     let logs = read_log_files(alloc, folder, names)?;
-    let trace = sourced_trace(alloc, logs.as_slice())?;
-    let worded = Some(trace_of(alloc, logs.as_slice())?);
+    let logs = logs.as_slice();
+    let worded = trace_of(alloc, logs)?;
+    let trace = sourced_trace(alloc, &worded, logs)?;
+    let worded = Some(worded);
     Ok(AskedTrace { trace, worded })
 }
