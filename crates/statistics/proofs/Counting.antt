@@ -6,7 +6,8 @@ use Rattle.std.proofs.lemmas.List.Sums.{count_by-le-length, sum_by-cons}
 use Rattle.log_record.specs.declared.record.Record.{Record}
 use Rattle.manager_slice.specs.declared.managed.HistoryEntry.{HistoryEntry}
 use Rattle.core_unit.specs.declared.entry.CoreEntry.{CoreEntry}
-use Rattle.statistics.specs.Columns.{by_place, column_at, column_count, counted, counts}
+use Rattle.statistics.specs.Columns.{column_at, column_count, counts}
+use Rattle.statistics.specs.Numbers.{by_place, counted}
 use Rattle.statistics.specs.Sights.{past_after, sight_of, sights_after}
 use Rattle.statistics.specs.declared.sight.Past.{Past}
 use Rattle.statistics.specs.declared.sight.Sight.{Sight}
@@ -27,11 +28,8 @@ all_counted s old new rest all long one is = record {
   each = λ k lt. one_less (counts (column_at k)) s rest all (get_or old k 0) (get_or new k 0) (one k lt) (is.each k lt);
 }
 
-small : (p : Sight → Bool) (n : ℕ) (rest all : List Sight) → length all ≤ 1048576 → n + count_by p rest ≡ count_by p all → n < 4294967295
-small p n rest all few is = omega (arith, count_by-le-length p all)
-
-pub few_counted : (numbers : List ℕ) (rest all : List Sight) → AddsUp numbers rest all → length all ≤ 1048576 → (place : ℕ) → place < column_count → get_or numbers place 0 < 4294967295
-few_counted numbers rest all is few place lt = small (counts (column_at place)) (get_or numbers place 0) rest all few (is.each place lt)
+pub few_counted : (numbers : List ℕ) (rest all : List Sight) → AddsUp numbers rest all → length all ≤ 1048576 → (place : ℕ) → place < column_count → get_or numbers place 0 ≤ 1048576
+few_counted numbers rest all is few place lt = omega (arith, count_by-le-length (counts (column_at place)) all, is.each place lt)
 
 -- ---- one more, and all
 
