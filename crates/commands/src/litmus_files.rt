@@ -19,7 +19,7 @@ use litmus::{
     CollectFault, Collected, Litmus, Table, collect_seeded, collect_threaded, write_table,
 };
 use log_file::{ByteSink, ReadFault};
-use statistics::{RunTotals, print_totals};
+use statistics::{Numbers, print_totals};
 use std::alloc::{AllocError, Global};
 use std::sync::Wait;
 use std::thread::Threads;
@@ -113,7 +113,7 @@ fn collected_of<R: Threads + Wait + Sync, F: Folder>(
 fn text_of(
     alloc: Global,
     statistics: Option<&str>,
-    totals: &RunTotals,
+    totals: &Numbers,
 ) -> Result<Vec<u8>, AllocError>
     ensures { IfOk result (λ text.
         IfSome statistics.entry (λ _. text.items ≡ totals_text totals.now)) }

@@ -12,7 +12,7 @@ use Rattle.statistics.specs.Sights.{core_sights, no_past, slice_sights}
 use Rattle.statistics.specs.declared.numbers.Numbers.{Numbers}
 use Rattle.statistics.specs.declared.sight.Sight.{Sight}
 use Rattle.statistics.specs.declared.sight.Sight.TheVariants.{Slice}
-use Rattle.statistics.proofs.Counting.{length_seen}
+use Rattle.statistics.proofs.Counting.{counted_few, length_seen}
 
 pub wider : (parts more : ℕ) (n : Numbers) → IsBoundedBy parts n → parts ≤ more → IsBoundedBy more n
 wider parts more n is few = record { each = λ place lt counts. omega (arith, is.each place lt counts) }
@@ -31,13 +31,8 @@ bounded_both n m a b first second = record {
 
 -- ---- of one core or slice
 
-counted_few : (sights : List Sight) → length sights ≤ 1048576 → IsBoundedBy 1 (record { values = counted sights })
-unfolding by_place
-counted_few sights few = record {
-  each = λ place lt counts_it.
-      let at = get_or-map-range_with_len (λ k. count_by (counts (column_at k)) sights) 0 column_count place place 0 lt (omega arith) in
-      omega (arith, at, count_by-le-length (counts (column_at place)) sights);
-}
+few_bounded : (sights : List Sight) → length sights ≤ 1048576 → IsBoundedBy 1 (record { values = counted sights })
+few_bounded sights few = record { each = λ place lt counts_it. omega (arith, counted_few sights place lt few) }
 
 -- a stamp or a rank has no bound
 beside_counts : (k v : ℕ) (values : List ℕ) → is_greatest (column_at k) ≡ true → IsBoundedBy 1 (record { values = values }) → IsBoundedBy 1 (record { values = slice_set values k v })
@@ -51,10 +46,10 @@ pub core_bounded : (u : UnitParts) → length u.transcript ≤ 1048576 → IsBou
 unfolding by_place column_at
 core_bounded u few =
     let seen : length (core_sights u) ≤ 1048576 = omega (arith, length_seen u.config.period u.log no_past u.transcript) in
-    beside_counts 19 (greatest_rank u.log) _ refl (beside_counts 13 u.pts _ refl (counted_few (core_sights u) seen))
+    beside_counts 19 (greatest_rank u.log) _ refl (beside_counts 13 u.pts _ refl (few_bounded (core_sights u) seen))
 
 pub slice_bounded : (s : SliceParts) → length s.history ≤ 1048576 → IsBoundedBy 1 (slice_counts s)
 unfolding by_place column_at
 slice_bounded s few =
     let seen : length (slice_sights s) ≤ 1048576 = omega (arith, length-map s.history (λ e. Slice e)) in
-    beside_counts 17 s.state.memory.mts _ refl (counted_few (slice_sights s) seen)
+    beside_counts 17 s.state.memory.mts _ refl (few_bounded (slice_sights s) seen)

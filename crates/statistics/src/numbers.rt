@@ -1,12 +1,12 @@
 //! The numbers of cores and slices.
 
-ghost use Rattle.std.specs.Prelude.{◌≡◌, ◌+◌, ◌∷◌, ◌<◌, ◌≤◌, ◌^◌, ℕ, [], false, List, get_or, length, map};
+ghost use Rattle.std.specs.Prelude.{◌≡◌, ◌+◌, ◌∷◌, ◌++◌, ◌<◌, ◌≤◌, ◌^◌, ℕ, [], false, List, get_or, length, map};
 ghost use Rattle.manager_slice.specs.Limits.{entry_limit};
 ghost use Rattle.statistics.specs.Columns.{column_at, column_count, is_greatest, joined_in};
 ghost use Rattle.statistics.specs.Numbers as numbers;
 ghost use Rattle.statistics.specs.Sights.{no_past, sights_after};
 ghost use Rattle.statistics.specs.declared.sight.Sight.{Sight};
-ghost use Rattle.statistics.specs.inner.Counting.{AddsUp, told};
+ghost use Rattle.statistics.specs.inner.Counting.{told};
 
 use super::column::{COLUMN_COUNT, Column, column_at};
 use super::run_counts::RunCounts;
@@ -92,6 +92,7 @@ fn joined(place: usize, one: u64, other: u64) -> u64
 }
 
 /// The count of each column over a transcript and its log.
+#[tactic(auto, unfolding(crate::specs::Numbers::by_place))]
 fn count_entries(transcript: &Transcript, log: &[Record], period: u64) -> [u64; COLUMN_COUNT]
     requires { 1 ≤ period }
     ensures { result ≡ numbers.counted (sights_after period log.now no_past transcript.now.entries) }
@@ -109,7 +110,7 @@ fn count_entries(transcript: &Transcript, log: &[Record], period: u64) -> [u64; 
 }
 
 /// The count of each column over a history.
-#[tactic(auto, using(crate::proofs::Counting::few_counted))]
+#[tactic(auto, unfolding(crate::specs::Numbers::by_place))]
 fn count_services(history: &[HistoryEntry]) -> [u64; COLUMN_COUNT]
     requires { length history.now ≤ entry_limit }
     ensures { result ≡ numbers.counted (map (λ e. Sight.Slice e) history.now) }
@@ -124,7 +125,7 @@ fn count_services(history: &[HistoryEntry]) -> [u64; COLUMN_COUNT]
 /// Counts a sight in each column that counts it.
 fn count(counts: &mut [u64; COLUMN_COUNT], sight: &Sight)
     requires { (place : ℕ) → place < column_count → get_or counts.old place 0 ≤ entry_limit }
-    ensures { (rest all : List Sight) → AddsUp counts.old (sight.now ∷ rest) all → AddsUp counts.new rest all }
+    ensures { (seen : List Sight) → counts.old ≡ numbers.counted seen → counts.new ≡ numbers.counted (seen ++ sight.now ∷ []) }
 {
     for place in 0..COLUMN_COUNT {
         counts[place] += told(place, sight);
