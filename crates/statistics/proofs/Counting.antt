@@ -19,9 +19,6 @@ count_at : (sights : List Sight) (k : ℕ) → k < column_count → get_or (coun
 unfolding by_place
 count_at sights k lt = get_or-map-range_with_len (λ place. count_by (counts (column_at place)) sights) 0 column_count k k 0 lt (omega arith)
 
-pub counted_few : (sights : List Sight) (k : ℕ) → k < column_count → length sights ≤ 1048576 → get_or (counted sights) k 0 ≤ 1048576
-counted_few sights k lt few = omega (arith, count_at sights k lt, count_by-le-length (counts (column_at k)) sights)
-
 pub one_more : (seen : List Sight) (s : Sight) (old new : List ℕ) → length new ≡ column_count
     → ((k : ℕ) → k < column_count → get_or new k 0 ≡ get_or old k 0 + told k s) → old ≡ counted seen → new ≡ counted (seen ++ s ∷ [])
 unfolding by_place told
@@ -30,10 +27,6 @@ one_more seen s old new long each was =
     (λ k lt. omega (arith, each k lt, ap (λ (o : List ℕ). get_or o k 0) was, count_at seen k lt, sum_by_push (λ x. cond (counts (column_at k) x) 1 0) seen s))
 
 -- ---- of an entry
-
-pub length_seen : (period : ℕ) (log : List Record) (past : Past) (es : List CoreEntry) → length (sights_after period log past es) ≡ length es
-length_seen period log past [] = refl
-length_seen period log past (e ∷ es) = omega (arith, length_seen period log (past_after past e) es)
 
 sights_push : (period : ℕ) (log : List Record) (past : Past) (es : List CoreEntry) (e : CoreEntry)
     → sights_after period log past (es ++ e ∷ []) ≡ sights_after period log past es ++ sight_of period log (fold past_after past es) e ∷ []

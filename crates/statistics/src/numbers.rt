@@ -34,6 +34,7 @@ impl Numbers {
     }
 
     /// The numbers of a core. Takes no memory.
+    #[tactic(auto, unfolding(crate::specs::Columns::column_at))]
     pub fn of_core(unit: &CoreUnit) -> Numbers
         ensures numbers { result ≡ numbers.core_counts unit.now }
         ensures bounded { numbers.IsBoundedBy 1 result }
@@ -46,6 +47,7 @@ impl Numbers {
     }
 
     /// The numbers of a slice. Takes no memory.
+    #[tactic(auto, unfolding(crate::specs::Numbers::by_place, crate::specs::Columns::column_at))]
     pub fn of_slice(slice: &ManagerSlice) -> Numbers
         ensures numbers { result ≡ numbers.slice_counts slice.now }
         ensures bounded { numbers.IsBoundedBy 1 result }
@@ -95,7 +97,8 @@ fn joined(place: usize, one: u64, other: u64) -> u64
 #[tactic(auto, unfolding(crate::specs::Numbers::by_place))]
 fn count_entries(transcript: &Transcript, log: &[Record], period: u64) -> [u64; COLUMN_COUNT]
     requires { 1 ≤ period }
-    ensures { result ≡ numbers.counted (sights_after period log.now no_past transcript.now.entries) }
+    ensures counts { result ≡ numbers.counted (sights_after period log.now no_past transcript.now.entries) }
+    ensures few { (place : ℕ) → place < column_count → get_or result place 0 ≤ entry_limit }
 {
     let mut counts = [0; COLUMN_COUNT];
     let mut past = Past::default();
@@ -113,7 +116,8 @@ fn count_entries(transcript: &Transcript, log: &[Record], period: u64) -> [u64; 
 #[tactic(auto, unfolding(crate::specs::Numbers::by_place))]
 fn count_services(history: &[HistoryEntry]) -> [u64; COLUMN_COUNT]
     requires { length history.now ≤ entry_limit }
-    ensures { result ≡ numbers.counted (map (λ e. Sight.Slice e) history.now) }
+    ensures counts { result ≡ numbers.counted (map (λ e. Sight.Slice e) history.now) }
+    ensures few { (place : ℕ) → place < column_count → get_or result place 0 ≤ entry_limit }
 {
     let mut counts = [0; COLUMN_COUNT];
     for entry in history {
@@ -125,7 +129,8 @@ fn count_services(history: &[HistoryEntry]) -> [u64; COLUMN_COUNT]
 /// Counts a sight in each column that counts it.
 fn count(counts: &mut [u64; COLUMN_COUNT], sight: &Sight)
     requires { (place : ℕ) → place < column_count → get_or counts.old place 0 ≤ entry_limit }
-    ensures { (seen : List Sight) → counts.old ≡ numbers.counted seen → counts.new ≡ numbers.counted (seen ++ sight.now ∷ []) }
+    ensures counts { (seen : List Sight) → counts.old ≡ numbers.counted seen → counts.new ≡ numbers.counted (seen ++ sight.now ∷ []) }
+    ensures few { (place : ℕ) → get_or counts.new place 0 ≤ get_or counts.old place 0 + 1 }
 {
     for place in 0..COLUMN_COUNT {
         counts[place] += told(place, sight);
