@@ -1,18 +1,16 @@
 -- One sight more: what it adds to the counts.
-use Rattle.std.proofs.Common.{◌≡◌, ℕ, ◌+◌, ◌<◌, ◌≤◌, cond, List, [], ◌∷◌, ◌++◌, count_by, get_or, length, map, take, refl, sym, ap, ◌∙◌, arith}
+use Rattle.std.proofs.Common.{◌≡◌, ℕ, ◌+◌, ◌<◌, cond, List, [], ◌∷◌, ◌++◌, count_by, get_or, length, take, refl, sym, ap, ◌∙◌, arith}
 use Rattle.std.specs.List.{fold}
-use Rattle.std.proofs.lemmas.List.{map_push, take_more}
+use Rattle.std.proofs.lemmas.List.{take_more}
 use Rattle.std.proofs.lemmas.List.FromFn.{fill_by_all, get_or-map-range_with_len}
-use Rattle.std.proofs.lemmas.List.Sums.{count_by-le-length, sum_by_push}
+use Rattle.std.proofs.lemmas.List.Sums.{sum_by_push}
 use Rattle.log_record.specs.declared.record.Record.{Record}
-use Rattle.manager_slice.specs.declared.managed.HistoryEntry.{HistoryEntry}
 use Rattle.core_unit.specs.declared.entry.CoreEntry.{CoreEntry}
 use Rattle.statistics.specs.Columns.{column_at, column_count, counts}
 use Rattle.statistics.specs.Numbers.{by_place, counted}
 use Rattle.statistics.specs.Sights.{past_after, sight_of, sights_after}
 use Rattle.statistics.specs.declared.sight.Past.{Past}
 use Rattle.statistics.specs.declared.sight.Sight.{Sight}
-use Rattle.statistics.specs.declared.sight.Sight.TheVariants.{Slice}
 use Rattle.statistics.specs.inner.Counting.{told}
 
 count_at : (sights : List Sight) (k : ℕ) → k < column_count → get_or (counted sights) k 0 ≡ count_by (counts (column_at k)) sights

@@ -1,5 +1,5 @@
 -- The numbers of cores and slices, and the totals over them.
-use Rattle.std.specs.Prelude.{◌≡◌, ℕ, ◌*◌, ◌^◌, ◌<◌, ◌≤◌, false, max, List, ◌++◌, count_by, get_or, map, replicate, take}
+use Rattle.std.specs.Prelude.{◌≡◌, ℕ, ◌*◌, ◌^◌, ◌<◌, ◌≤◌, false, max, List, count_by, get_or, map, replicate, take}
 use Rattle.std.specs.List.{fold, range_with_len}
 use Rattle.log_record.specs.declared.record.Record.{Record}
 use Rattle.manager_slice.specs.Parts.{SliceParts}

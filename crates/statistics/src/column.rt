@@ -133,12 +133,12 @@ impl Column {
     {
         match self {
             Column::Operations => true,
-            Column::Loads => is_load(act),
+            Column::Loads => matches!(act, Act::Load(_)),
             Column::Stores => matches!(act, Act::Store),
             Column::Swaps => matches!(act, Act::Swap(..)),
             Column::Hits => !came,
             Column::SelfIncrements => due,
-            Column::PrivateWrites => !came && !is_load(act),
+            Column::PrivateWrites => !came && !matches!(act, Act::Load(_)),
             _ => false,
         }
     }
@@ -179,11 +179,4 @@ impl Column {
             },
         }
     }
-}
-
-// Whether an act is a load.
-fn is_load(act: Act) -> bool
-    ensures { result ≡ columns.is_load act }
-{
-    matches!(act, Act::Load(_))
 }

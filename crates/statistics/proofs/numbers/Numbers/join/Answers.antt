@@ -13,5 +13,5 @@ pub returns-clause-totals : goal.returns-clause-totals
 unfolding by_place
 returns-clause-totals c =
     let all = fill_by_all (λ place. joined_in (column_at place) (get_or c.args.self.now.values place 0) (get_or c.args.more.now.values place 0)) c.loop-place.self.values column_count 0
-        c.loop-place.invariant.long (λ k lt. let below : k < c.loop-place.place = omega arith in c.loop-place.invariant.below k below) in
+    c.loop-place.invariant.long (λ k lt. let below : k < c.loop-place.place = omega arith in c.loop-place.invariant.below k below) in
     ap (λ values. record { values = values }) all
