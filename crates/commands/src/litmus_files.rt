@@ -110,11 +110,7 @@ fn collected_of<R: Threads + Wait + Sync, F: Folder>(
 }
 
 /// The text of the totals, if a file is given for it; else none.
-fn text_of(
-    alloc: Global,
-    statistics: Option<&str>,
-    totals: &Numbers,
-) -> Result<Vec<u8>, AllocError>
+fn text_of(alloc: Global, statistics: Option<&str>, totals: &Numbers) -> Result<Vec<u8>, AllocError>
     ensures { IfOk result (λ text.
         IfSome statistics.entry (λ _. text.items ≡ totals_text totals.now)) }
 {
