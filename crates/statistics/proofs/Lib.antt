@@ -1,4 +1,3 @@
-pub mod Bounds
 pub mod Counting
 pub mod Lines
 pub mod Plain

@@ -71,8 +71,8 @@ impl Numbers {
         requires room { numbers.IsBoundedBy (2 ^ 28) self.old }
         requires few { numbers.IsBoundedBy (2 ^ 28) more.now }
         ensures totals { self.new ≡ numbers.joined self.old more.now }
-        ensures bounded { (n m : ℕ) → numbers.IsBoundedBy n self.old → numbers.IsBoundedBy m more.now
-            → numbers.IsBoundedBy (n + m) self.new }
+        ensures bounded { (place : ℕ) → is_greatest (column_at place) ≡ false
+            → get_or self.new.values place 0 ≤ get_or self.old.values place 0 + get_or more.now.values place 0 }
     {
         for place in 0..COLUMN_COUNT {
             self.values[place] = joined(place, self.values[place], more.values[place]);

@@ -44,7 +44,6 @@ impl RunCounts {
 }
 
 /// The totals over cores.
-#[tactic(auto, using(crate::proofs::Bounds::wider))]
 fn of_cores(units: &[CoreUnit]) -> Numbers
     requires { length units.now ≤ 64 }
     ensures totals { result ≡ numbers.totals_of (map numbers.core_counts units.now) }
@@ -58,7 +57,6 @@ fn of_cores(units: &[CoreUnit]) -> Numbers
 }
 
 /// The totals over slices.
-#[tactic(auto, using(crate::proofs::Bounds::wider))]
 fn of_slices(managers: &[ManagerSlice]) -> Numbers
     requires { length managers.now ≤ 64 }
     ensures totals { result ≡ numbers.totals_of (map numbers.slice_counts managers.now) }

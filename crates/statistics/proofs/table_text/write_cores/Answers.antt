@@ -12,5 +12,5 @@ loop-core-preserved c = record {
   text = λ f. line_more (λ n. Core n) core_counts _ _ _ _ _ _ _ c.loop-core-test.true (c.loop-core.invariant.text f) (c.in_ok-write_row.ensures.text (c.loop-core.invariant.fresh f))
       (ap (row_cells (Core c.loop-core.core)) (c.of_core-numbers.ensures.numbers ∙ ap core_counts c.index-units-core.is));
   totals = grind (arith, common_steps);
-  bounded = c.join.ensures.bounded _ _ c.loop-core.invariant.bounded c.of_core-numbers.ensures.bounded;
+  bounded = grind (arith, common_steps);
 }
