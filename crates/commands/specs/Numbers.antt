@@ -5,7 +5,7 @@ use Rattle.log_record.specs.declared.format.Format.{Format}
 use Rattle.log_record.specs.declared.record.Record.{Record}
 use Rattle.manager_slice.specs.Parts.{SliceParts}
 use Rattle.core_unit.specs.Parts.{UnitParts}
-use Rattle.statistics.specs.Columns.{core_counts, slice_counts}
+use Rattle.statistics.specs.Numbers.{core_counts, slice_counts}
 use Rattle.statistics.specs.TableText.{statistics_text}
 use Rattle.host_files.specs.Files.{Files}
 use Rattle.commands.specs.Logs.{ArePut, ArePutAsFar, ArePutUpTo}

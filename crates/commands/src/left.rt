@@ -14,8 +14,8 @@ use core_unit::CoreUnit;
 use host_files::Folder;
 use log_record::Format;
 use manager_slice::ManagerSlice;
-use statistics::{counts_of_cores, counts_of_slices, print_statistics};
-use std::alloc::{AllocError, Global};
+use statistics::print_statistics;
+use std::alloc::Global;
 
 /// Where a run leaves what, and how much of it there is.
 #[derive(Clone, Copy)]
@@ -30,22 +30,6 @@ pub(crate) struct Leaving<'a> {
     pub(crate) cores: usize,
     /// How many slices there are.
     pub(crate) slices: usize,
-}
-
-/// The text of the numbers of so many cores and slices.
-fn numbers_of(
-    alloc: Global,
-    units: &[CoreUnit],
-    managers: &[ManagerSlice],
-    cores: usize,
-    slices: usize,
-) -> Result<Vec<u8>, AllocError>
-    requires { cores ≤ 64 }
-    ensures { IfOk result (λ text. text.items ≡ numbers.numbers_of cores slices units.now managers.now) }
-{
-    let of_cores = counts_of_cores(alloc, units, cores)?;
-    let of_slices = counts_of_slices(alloc, managers, slices)?;
-    print_statistics(alloc, of_cores.as_slice(), of_slices.as_slice())
 }
 
 /// Puts the numbers of a run under the name that is given for them, if one is: 29 if that fails, 10.
@@ -66,7 +50,7 @@ fn put_numbers<F: Folder>(
     let Some(name) = leaving.statistics else {
         return Ok(());
     };
-    let Ok(text) = numbers_of(alloc, units, managers, leaving.cores, leaving.slices) else {
+    let Ok(text) = print_statistics(alloc, units, managers, leaving.cores, leaving.slices) else {
         return Err(Refusal::OutOfMemory);
     };
     put_under(folder, Some(name), text.as_slice(), Output::Statistics)

@@ -19,7 +19,7 @@ use litmus::{
     CollectFault, Collected, Litmus, Table, collect_seeded, collect_threaded, write_table,
 };
 use log_file::{ByteSink, ReadFault};
-use statistics::{RunTotals, print_totals};
+use statistics::{Numbers, print_totals};
 use std::alloc::{AllocError, Global};
 use std::sync::Wait;
 use std::thread::Threads;
@@ -110,11 +110,7 @@ fn collected_of<R: Threads + Wait + Sync, F: Folder>(
 }
 
 /// The text of the totals, if a file is given for it; else none.
-fn text_of(
-    alloc: Global,
-    statistics: Option<&str>,
-    totals: &RunTotals,
-) -> Result<Vec<u8>, AllocError>
+fn text_of(alloc: Global, statistics: Option<&str>, totals: &Numbers) -> Result<Vec<u8>, AllocError>
     ensures { IfOk result (λ text.
         IfSome statistics.entry (λ _. text.items ≡ totals_text totals.now)) }
 {

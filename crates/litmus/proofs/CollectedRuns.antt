@@ -10,9 +10,8 @@ use Rattle.litmus.specs.Collecting.{AreEndsOf}
 use Rattle.litmus.specs.Parts.{LitmusParts}
 use Rattle.litmus.specs.Ends.{ThreadEnd, left, outcome_of}
 use Rattle.litmus.specs.Runs.{IsEndOf, IsSeededRun, IsThreadRun, seed_of, seeded_numbers, stress_of, thread_numbers}
-use Rattle.statistics.specs.Runs.{RunNumbers}
-use Rattle.statistics.specs.Totals.{IsBounded, totals_of, with_run}
-use Rattle.statistics.specs.declared.run_totals.RunTotals.{RunTotals}
+use Rattle.statistics.specs.Numbers.{IsBounded, joined, totals_of}
+use Rattle.statistics.specs.declared.numbers.Numbers.{Numbers}
 use Rattle.statistics.proofs.Totals.{totals_more}
 use Rattle.litmus.specs.inner.Tallies.{IsTally}
 use Rattle.litmus.proofs.Tallied.{none_counted}
@@ -21,7 +20,7 @@ abbrev pub outcomes_of : (E : Type 0) → (E → World) → LitmusParts → List
 outcomes_of E at t ends = map (λ end. outcome_of t (at end)) ends
 
 -- the runs before run k, each with logs that get Yes, their outcomes counted, and their numbers added up
-pub record CollectedSoFar (E : Type 0) (Ran : ℕ → E → Type 0) (at : E → World) (numbers : E → RunNumbers) (t : LitmusParts) (entries : List (Vec ℕ × ℕ)) (totals : RunTotals) (k : ℕ) : Type 0 where
+pub record CollectedSoFar (E : Type 0) (Ran : ℕ → E → Type 0) (at : E → World) (numbers : E → Numbers) (t : LitmusParts) (entries : List (Vec ℕ × ℕ)) (totals : Numbers) (k : ℕ) : Type 0 where
   pub ends : List E
   pub count : length ends ≡ k
   pub each : AreEndsOf E Ran at t ends
@@ -29,14 +28,14 @@ pub record CollectedSoFar (E : Type 0) (Ran : ℕ → E → Type 0) (at : E → 
   pub sums : totals ≡ totals_of (map numbers ends)
   pub bounded : IsBounded k totals
 
-abbrev pub SeededSoFar : LitmusParts → ConfigParts → ℕ → Option ℕ → List (Vec ℕ × ℕ) → RunTotals → ℕ → Type 0
+abbrev pub SeededSoFar : LitmusParts → ConfigParts → ℕ → Option ℕ → List (Vec ℕ × ℕ) → Numbers → ℕ → Type 0
 SeededSoFar t g seed stress entries totals k =
     CollectedSoFar CoreParts (λ n. IsSeededRun t g (seed_of seed n) (stress_of stress n)) world (seeded_numbers t g) t entries totals k
 
-abbrev pub ThreadedSoFar : LitmusParts → ConfigParts → List (Vec ℕ × ℕ) → RunTotals → ℕ → Type 0
+abbrev pub ThreadedSoFar : LitmusParts → ConfigParts → List (Vec ℕ × ℕ) → Numbers → ℕ → Type 0
 ThreadedSoFar t g entries totals k = CollectedSoFar ThreadEnd (λ n. IsThreadRun t g) left (thread_numbers t g) t entries totals k
 
-pub none_so_far : (E : Type 0) (Ran : ℕ → E → Type 0) (at : E → World) (numbers : E → RunNumbers) (t : LitmusParts) (totals : RunTotals) → totals ≡ totals_of [] → IsBounded 0 totals
+pub none_so_far : (E : Type 0) (Ran : ℕ → E → Type 0) (at : E → World) (numbers : E → Numbers) (t : LitmusParts) (totals : Numbers) → totals ≡ totals_of [] → IsBounded 0 totals
     → CollectedSoFar E Ran at numbers t [] totals 0
 none_so_far E Ran at numbers t totals none bounded = record {
   ends = [];
@@ -54,9 +53,9 @@ each_more P [] x all here (suc k) q e = absurd cc
 each_more P (y ∷ xs) x all here zero q e = all 0 q e
 each_more P (y ∷ xs) x all here (suc k) q e = each_more (λ n r. P (suc n) r) xs x (λ n r f. all (suc n) r f) here k q e
 
-pub one_more_run : (E : Type 0) (Ran : ℕ → E → Type 0) (at : E → World) (numbers : E → RunNumbers) (t : LitmusParts) (k : ℕ) (old new : List (Vec ℕ × ℕ)) (totals after : RunTotals)
-    (outcome : List ℕ) (n : RunNumbers) → CollectedSoFar E Ran at numbers t old totals k → IsEndOf E (Ran k) at numbers t outcome n
-    → ((outcomes : List (List ℕ)) → IsTally outcomes old → IsTally (outcomes ++ outcome ∷ []) new) → after ≡ with_run totals n → IsBounded (k + 1) after
+pub one_more_run : (E : Type 0) (Ran : ℕ → E → Type 0) (at : E → World) (numbers : E → Numbers) (t : LitmusParts) (k : ℕ) (old new : List (Vec ℕ × ℕ)) (totals after : Numbers)
+    (outcome : List ℕ) (n : Numbers) → CollectedSoFar E Ran at numbers t old totals k → IsEndOf E (Ran k) at numbers t outcome n
+    → ((outcomes : List (List ℕ)) → IsTally outcomes old → IsTally (outcomes ++ outcome ∷ []) new) → after ≡ joined totals n → IsBounded (k + 1) after
     → CollectedSoFar E Ran at numbers t new after (k + 1)
 one_more_run E Ran at numbers t k old new totals after outcome n far end more adds bounded =
     let run-is = subst (λ (m : ℕ). IsEndOf E (Ran m) at numbers t outcome n) (sym far.count) end in
@@ -68,7 +67,7 @@ one_more_run E Ran at numbers t k old new totals after outcome n far end more ad
           (ap (λ (o : List ℕ). outcomes_of E at t far.ends ++ o ∷ []) run-is.outcome_is ∙ sym (map_push (λ q. outcome_of t (at q)) far.ends run-is.end))
           (more (outcomes_of E at t far.ends) far.tally);
       sums =
-          adds ∙ ap (λ (s : RunTotals). with_run s n) far.sums ∙ ap (with_run (totals_of (map numbers far.ends))) run-is.numbers_are
+          adds ∙ ap (λ (s : Numbers). joined s n) far.sums ∙ ap (joined (totals_of (map numbers far.ends))) run-is.numbers_are
           ∙ sym (totals_more (map numbers far.ends) (numbers run-is.end)) ∙ sym (ap totals_of (map_push numbers far.ends run-is.end));
       bounded = bounded;
     }

@@ -11,7 +11,7 @@ use Rattle.core_machine.specs.Parts.{CoreParts, world}
 use Rattle.core_machine.specs.SeatParts.{SeatParts}
 use Rattle.core_machine.specs.Seats.{seen}
 use Rattle.core_machine.specs.Works.{log_at, logs_below}
-use Rattle.statistics.specs.Runs.{RunNumbers}
+use Rattle.statistics.specs.declared.numbers.Numbers.{Numbers}
 use Rattle.verdict.specs.VerdictOf.{run_verdict_of}
 use Rattle.verdict.specs.declared.answer.Verdict.TheVariants.{Yes}
 use Rattle.litmus.specs.Parts.{LitmusParts, ShownParts}
@@ -58,7 +58,7 @@ same_cause t w v (cause.Threads fault) logs is = is
 same_cause t w v cause.OutOfMemory logs is = is
 
 -- a run that has ended has its outcome and its numbers where its logs get Yes, and else a cause
-pub judged_end : (E : Type 0) (Ran : E → Type 0) (NotEnded : RunCause → Type 0) (at : E → World) (numbers : E → RunNumbers) (t : LitmusParts) (end : E) (us : List UnitParts) (r : Result Kept RunCause)
+pub judged_end : (E : Type 0) (Ran : E → Type 0) (NotEnded : RunCause → Type 0) (at : E → World) (numbers : E → Numbers) (t : LitmusParts) (end : E) (us : List UnitParts) (r : Result Kept RunCause)
     → Alike (at_end us) (at end) → Ran end
     → MatchResult r (λ k. GetsYes t (at_end us) × (k.outcome.items ≡ outcome_of t (at_end us)) × (k.counts ≡ numbers end)) (λ why. IsJudgeCause t (at_end us) why)
     → MatchResult r (λ k. IsEndOf E Ran at numbers t k.outcome.items k.counts) (λ why. IsCauseOf E Ran NotEnded at t why)

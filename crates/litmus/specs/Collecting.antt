@@ -13,8 +13,8 @@ use Rattle.litmus.specs.Ends.{ThreadEnd, GetsYes, SaysNo, left, outcome_of}
 use Rattle.litmus.specs.Runs.{IsRunCause, IsSeededRun, IsThreadCause, IsThreadRun, seed_of, seeded_numbers, stress_of, thread_numbers}
 use Rattle.litmus.specs.declared.collecting.Collected.{Collected}
 use Rattle.litmus.specs.TableParts.{RowParts}
-use Rattle.statistics.specs.Runs.{RunNumbers}
-use Rattle.statistics.specs.Totals.{totals_of}
+use Rattle.statistics.specs.Numbers.{totals_of}
+use Rattle.statistics.specs.declared.numbers.Numbers.{Numbers}
 use Rattle.litmus.specs.declared.run_cause.RunCause.{RunCause}
 use Rattle.litmus.specs.declared.run_fault.CollectFault.{CollectFault}
 use Rattle.litmus.specs.declared.run_fault.CollectFault.TheVariants.{BadRuns, Run, OutOfMemory}
@@ -61,7 +61,7 @@ abbrev pub AreEndsOf : (E : Type 0) → (ℕ → E → Type 0) → (E → World)
 AreEndsOf E Ran at t ends = (k : ℕ) (end : E) → slice_get ends k ≡ Some end → Ran k end × GetsYes t (at end)
 
 -- there are runs, one for each number below `runs`, whose outcomes the rows tell, and whose numbers the totals add up
-pub record IsTableOf (E : Type 0) (Ran : ℕ → E → Type 0) (at : E → World) (numbers : E → RunNumbers) (t : LitmusParts) (runs : ℕ) (collected : Collected) : Type 0 where
+pub record IsTableOf (E : Type 0) (Ran : ℕ → E → Type 0) (at : E → World) (numbers : E → Numbers) (t : LitmusParts) (runs : ℕ) (collected : Collected) : Type 0 where
   pub in_range : IsRunCount runs
   pub ends : List E
   pub count : length ends ≡ runs

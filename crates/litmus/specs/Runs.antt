@@ -14,7 +14,8 @@ use Rattle.machine.specs.Runs.{IsMachineRun}
 use Rattle.simulation.specs.Events.{IsSimulatedByRun}
 use Rattle.simulation.specs.Simulating.{IsSimulationFault}
 use Rattle.simulation.specs.declared.fault.SimulationFault.{SimulationFault}
-use Rattle.statistics.specs.Runs.{RunNumbers, run_numbers}
+use Rattle.statistics.specs.Numbers.{run_numbers}
+use Rattle.statistics.specs.declared.numbers.Numbers.{Numbers}
 use Rattle.litmus.specs.Parts.{LitmusParts}
 use Rattle.litmus.specs.Ends.{GetsYes, IsJudgeCause, ThreadEnd, left, outcome_of}
 use Rattle.litmus.specs.declared.run_cause.RunCause.{RunCause}
@@ -48,7 +49,7 @@ IsUnendedRun programs fault = (us : List UnitParts) × (((fault.cause ≡ GaveUp
 -- ---- a run of either kind: `Ran` says where it ended
 
 -- some such run ended with this outcome and these numbers, and its logs get Yes
-pub record IsEndOf (E : Type 0) (Ran : E → Type 0) (at : E → World) (numbers : E → RunNumbers) (t : LitmusParts) (outcome : List ℕ) (n : RunNumbers) : Type 0 where
+pub record IsEndOf (E : Type 0) (Ran : E → Type 0) (at : E → World) (numbers : E → Numbers) (t : LitmusParts) (outcome : List ℕ) (n : Numbers) : Type 0 where
   pub end : E
   pub run : Ran end
   pub yes : GetsYes t (at end)
@@ -56,18 +57,18 @@ pub record IsEndOf (E : Type 0) (Ran : E → Type 0) (at : E → World) (numbers
   pub numbers_are : n ≡ numbers end
 
 -- the numbers of a run, where it ended
-abbrev pub seeded_numbers : LitmusParts → ConfigParts → CoreParts → RunNumbers
+abbrev pub seeded_numbers : LitmusParts → ConfigParts → CoreParts → Numbers
 seeded_numbers t g q = run_numbers (length t.programs) g.slices (map (λ seat. seat.unit) q.seats) q.slices
 
-abbrev pub thread_numbers : LitmusParts → ConfigParts → ThreadEnd → RunNumbers
+abbrev pub thread_numbers : LitmusParts → ConfigParts → ThreadEnd → Numbers
 thread_numbers t g end = run_numbers (length t.programs) g.slices end.units end.slices
 
 -- the run by this seed
-abbrev pub IsSeededEnd : LitmusParts → ConfigParts → ℕ → Option ℕ → List ℕ → RunNumbers → Type 0
+abbrev pub IsSeededEnd : LitmusParts → ConfigParts → ℕ → Option ℕ → List ℕ → Numbers → Type 0
 IsSeededEnd t g seed stress outcome n = IsEndOf CoreParts (IsSeededRun t g seed stress) world (seeded_numbers t g) t outcome n
 
 -- a run by threads
-abbrev pub IsThreadEnd : LitmusParts → ConfigParts → List ℕ → RunNumbers → Type 0
+abbrev pub IsThreadEnd : LitmusParts → ConfigParts → List ℕ → Numbers → Type 0
 IsThreadEnd t g outcome n = IsEndOf ThreadEnd (IsThreadRun t g) left (thread_numbers t g) t outcome n
 
 -- ---- why a run has no outcome that counts

@@ -3,7 +3,7 @@
 ghost use Rattle.std.specs.Prelude.{◌≡◌, ◌↔◌, ℕ, List, IfErr, IfOk, IsOk, MatchResult, length};
 ghost use Rattle.litmus.specs.Collecting.{AreRowsOf, IsRunCount};
 ghost use Rattle.litmus.specs.Ends.{GetsYes, IsJudgeCause, outcome_of};
-ghost use Rattle.statistics.specs.Runs.{run_numbers};
+ghost use Rattle.statistics.specs.Numbers.{run_numbers};
 ghost use Rattle.litmus.specs.declared.run_fault.CollectFault.TheVariants.{BadRuns};
 ghost use Rattle.litmus.specs.inner.JudgedOutcome.{at_end};
 ghost use Rattle.litmus.specs.inner.Tallies.{IsTally};
@@ -17,7 +17,7 @@ use super::test::Litmus;
 use core_unit::CoreUnit;
 use lease_rule::Config;
 use manager_slice::ManagerSlice;
-use statistics::{RunCounts, RunTotals};
+use statistics::{Numbers, RunCounts};
 use std::alloc::{AllocError, Global};
 use std::collections::BTreeMap;
 use std::thread::Threads;
@@ -31,7 +31,7 @@ pub struct Collected {
     /// The table of their outcomes.
     pub table: Table,
     /// The totals of their numbers.
-    pub totals: RunTotals,
+    pub totals: Numbers,
 }
 
 /// What is kept of a run that has ended.
@@ -60,7 +60,7 @@ pub(crate) fn keep<R: Threads + Sync>(
 {
     let outcome = judged_outcome(rt, alloc, test, units)?;
     let cores = test.programs().len();
-    let counts = RunCounts::of(alloc, units, managers, cores, config.slices())?;
+    let counts = RunCounts::of(units, managers, cores, config.slices());
     Ok(Kept { outcome, counts })
 }
 

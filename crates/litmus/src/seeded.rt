@@ -14,7 +14,7 @@ use super::tally::count_outcome;
 use super::test::Litmus;
 use lease_rule::Config;
 use simulation::simulate;
-use statistics::RunTotals;
+use statistics::Numbers;
 use std::alloc::Global;
 use std::collections::BTreeMap;
 use std::thread::Threads;
@@ -94,7 +94,7 @@ pub fn collect_seeded<R: Threads + Sync>(
 {
     check_runs(runs)?;
     let mut tally = BTreeMap::new(alloc);
-    let mut totals = RunTotals::none();
+    let mut totals = Numbers::none();
     for run in 0..runs {
         let between = stress_of(stress, run);
         match run_seeded(rt, alloc, test, config, seed.wrapping_add(run), between) {

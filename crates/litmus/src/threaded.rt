@@ -14,7 +14,7 @@ use super::test::Litmus;
 use lease_rule::Config;
 use machine::{Go, Pace, ThreadsFault, run_threads};
 use mem_op::CoreId;
-use statistics::RunTotals;
+use statistics::Numbers;
 use std::alloc::Global;
 use std::collections::BTreeMap;
 use std::sync::Wait;
@@ -76,7 +76,7 @@ pub fn collect_threaded<R: Threads + Wait + Sync>(
 {
     check_runs(runs)?;
     let mut tally = BTreeMap::new(alloc);
-    let mut totals = RunTotals::none();
+    let mut totals = Numbers::none();
     for run in 0..runs {
         match run_threaded(rt, alloc, test, config) {
             Ok(kept) => {

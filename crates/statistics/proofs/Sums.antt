@@ -29,39 +29,23 @@ use Rattle.statistics.specs.declared.sight.Sight.TheVariants.{Operation, Core, S
 
 -- ---- operations
 
-abbrev pub is_operation : CoreEntry → Bool
-is_operation Performed = true
-is_operation other = false
-
 -- a core makes a record for each of its operations
-step_logged : (g : ConfigParts) (c : ℕ) (u : unit.Core) (e : CoreEntry) (v : unit.Core) → CoreStep g c u e v → length v.log ≡ length u.log + cond (is_operation e) 1 0
-step_logged g c u e v (performs x hit free next hits) = omega (arith, length-append u.log (record_of x hit ∷ []))
-step_logged g c u e v (drops a l free at) = omega arith
-step_logged g c u e v (gives kind a modified l asked free at) = omega arith
-step_logged g c u e v (gets x reply held free next misses place kind fills) = omega arith
-step_logged g c u e v (is_taken kind a l same) = omega arith
-step_logged g c u e v (bumps free) = omega arith
+step_logged : (period : ℕ) (log : List Record) (past : Past) (g : ConfigParts) (c : ℕ) (u : unit.Core) (e : CoreEntry) (v : unit.Core)
+    → CoreStep g c u e v → length v.log ≡ length u.log + cond (counts Operations (sight_of period log past e)) 1 0
+step_logged period log past g c u e v (performs x hit free next hits) = omega (arith, length-append u.log (record_of x hit ∷ []))
+step_logged period log past g c u e v (drops a l free at) = omega arith
+step_logged period log past g c u e v (gives kind a modified l asked free at) = omega arith
+step_logged period log past g c u e v (gets x reply held free next misses place kind fills) = omega arith
+step_logged period log past g c u e v (is_taken kind a l same) = omega arith
+step_logged period log past g c u e v (bumps free) = omega arith
 
-leads_logged : (g : ConfigParts) (c : ℕ) (u : unit.Core) (es : List CoreEntry) (v : unit.Core) → CoreLeads g c u es v → length v.log ≡ length u.log + count_by is_operation es
-leads_logged g c u [] v h = let same = ap (λ (x : unit.Core). length x.log) h in omega (arith, same)
-leads_logged g c u (e ∷ es) v h =
-    omega (arith, step_logged g c u e h.0 h.1, sum_by-cons (λ x. cond (is_operation x) 1 0) e es, leads_logged g c h.0 es v h.2)
-
--- what is seen of them counts as many
-seen_operation : (period : ℕ) (log : List Record) (past : Past) (e : CoreEntry) → counts Operations (sight_of period log past e) ≡ is_operation e
-seen_operation period log past Performed = refl
-seen_operation period log past (Dropped a) = refl
-seen_operation period log past (Gave m) = refl
-seen_operation period log past (Got m r) = refl
-seen_operation period log past Bumped = refl
-
-seen_operations : (period : ℕ) (log : List Record) (past : Past) (es : List CoreEntry) → count_by (counts Operations) (sights_after period log past es) ≡ count_by is_operation es
-seen_operations period log past [] = refl
-seen_operations period log past (e ∷ es) =
+leads_logged : (period : ℕ) (log : List Record) (past : Past) (g : ConfigParts) (c : ℕ) (u : unit.Core) (es : List CoreEntry) (v : unit.Core)
+    → CoreLeads g c u es v → length v.log ≡ length u.log + count_by (counts Operations) (sights_after period log past es)
+leads_logged period log past g c u [] v h = let same = ap (λ (x : unit.Core). length x.log) h in omega (arith, same)
+leads_logged period log past g c u (e ∷ es) v h =
     let next = past_after past e in
-    let seen = sum_by-cons (λ x. cond (counts Operations x) 1 0) (sight_of period log past e) (sights_after period log next es) in
-    let same = ap {B = ℕ} (λ b. cond b 1 0) (seen_operation period log past e) in
-    omega (arith, seen, same, sum_by-cons (λ x. cond (is_operation x) 1 0) e es, seen_operations period log next es)
+    let all = sum_by-cons (λ x. cond (counts Operations x) 1 0) (sight_of period log past e) (sights_after period log next es) in
+    omega (arith, step_logged period log past g c u e h.0 h.1, all, leads_logged period log next g c h.0 es v h.2)
 
 -- each has one act
 one_kind : (s : Sight) → cond (counts Loads s) 1 0 + cond (counts Stores s) 1 0 + cond (counts Swaps s) 1 0 ≡ cond (counts Operations s) 1 0
@@ -82,8 +66,8 @@ kinds (s ∷ ss) =
 
 operations : (p : UnitParts) → Replays p → count_of Operations p ≡ length p.log
 operations p replays =
-    let all : length p.log ≡ 0 + count_by is_operation p.transcript = leads_logged p.config p.core (new_core p.program) p.transcript _ replays.replay in
-    omega (arith, all, seen_operations p.config.period p.log no_past p.transcript)
+    let all : length p.log ≡ 0 + count_of Operations p = leads_logged p.config.period p.log no_past p.config p.core (new_core p.program) p.transcript _ replays.replay in
+    omega (arith, all)
 
 pub logs_are_counted : LogsAreCounted
 logs_are_counted p replays = record { operations = operations p replays; acts = kinds (core_sights p) ∙ operations p replays }

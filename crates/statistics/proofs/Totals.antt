@@ -1,8 +1,10 @@
--- The totals over one more run.
+-- The totals over one more.
 use Rattle.std.proofs.Common.{◌≡◌, List, [], ◌∷◌, ◌++◌}
+use Rattle.std.specs.Prelude.{replicate}
 use Rattle.std.proofs.lemmas.List.Sums.{fold_push}
-use Rattle.statistics.specs.Runs.{RunNumbers}
-use Rattle.statistics.specs.Totals.{none, totals_of, with_run}
+use Rattle.statistics.specs.Columns.{column_count}
+use Rattle.statistics.specs.Numbers.{joined, totals_of}
+use Rattle.statistics.specs.declared.numbers.Numbers.{Numbers}
 
-pub totals_more : (runs : List RunNumbers) (run : RunNumbers) → totals_of (runs ++ run ∷ []) ≡ with_run (totals_of runs) run
-totals_more runs run = fold_push with_run none runs run
+pub totals_more : (all : List Numbers) (more : Numbers) → totals_of (all ++ more ∷ []) ≡ joined (totals_of all) more
+totals_more all more = fold_push joined (record { values = replicate column_count 0 }) all more

@@ -1,20 +1,14 @@
--- The columns of the table, and the numbers of a core and of a slice in them.
-use Rattle.std.specs.Prelude.{ℕ, Bool, true, false, ◌&&◌, not, max, List, [], ◌∷◌, codes, count_by, get_or, map}
-use Rattle.std.specs.List.{fold, range_with_len}
+-- The columns of the table: their names, and what each counts.
+use Rattle.std.specs.Prelude.{ℕ, ◌+◌, Bool, true, false, ◌&&◌, not, if◌then◌else◌, max, List, [], ◌∷◌, codes, get_or}
 use Rattle.line_stamps.specs.declared.message.Message.TheVariants as message
 use Rattle.line_stamps.specs.declared.message.Reply.TheVariants.{RenewRep, UpgradeRep}
 use Rattle.log_record.specs.declared.act.Act.{Act}
 use Rattle.log_record.specs.declared.act.Act.TheVariants as act
-use Rattle.log_record.specs.declared.record.Record.{Record}
 use Rattle.manager_slice.specs.Messages.{is_request}
-use Rattle.manager_slice.specs.Parts.{SliceParts}
 use Rattle.manager_slice.specs.declared.managed.HistoryEntry.TheVariants.{Evicted, Served}
-use Rattle.core_unit.specs.Parts.{UnitParts}
 use Rattle.core_unit.specs.declared.entry.CoreEntry.TheVariants as entry
-use Rattle.statistics.specs.Sights.{core_sights, slice_sights}
 use Rattle.statistics.specs.declared.column.Column.{Column}
 use Rattle.statistics.specs.declared.column.Column.TheVariants.{Operations, Loads, Stores, Swaps, Hits, ShReq, ExReq, Renewals, Upgrades, WbRep, FlushRep, Dropped, SelfIncrements, Pts, Requests, GiveBacks, Evictions, Mts, PrivateWrites, Rank}
-use Rattle.statistics.specs.declared.numbers.Numbers.{Numbers}
 use Rattle.statistics.specs.declared.sight.Sight.{Sight}
 use Rattle.statistics.specs.declared.sight.Sight.TheVariants.{Operation, Core, Slice}
 
@@ -57,6 +51,17 @@ is_of_slices Evictions = true
 is_of_slices Mts = true
 is_of_slices other = false
 
+-- whether a column tells a stamp or a rank, of which the greatest counts; the others count sights, and counts add up
+abbrev pub is_greatest : Column → Bool
+is_greatest Pts = true
+is_greatest Mts = true
+is_greatest Rank = true
+is_greatest other = false
+
+-- two numbers in a column as one
+abbrev pub joined_in : Column → ℕ → ℕ → ℕ
+joined_in column a b = if is_greatest column then max a b else a + b
+
 -- ---- what a column counts
 
 abbrev pub is_load : Act → Bool
@@ -89,27 +94,8 @@ counts Evictions (Slice (Evicted a)) = true
 counts PrivateWrites (Operation act came due) = not came && not (is_load act)
 counts column other = false
 
--- ---- numbers
+-- ---- places
 
 -- the column at a place
 unfoldable pub column_at : ℕ → Column
 column_at place = get_or columns place Operations
-
--- one number for each column, by its place
-unfoldable pub by_place : (ℕ → ℕ) → List ℕ
-by_place number = map number (range_with_len 0 column_count)
-
--- how much each column counts of this
-abbrev pub counted : List Sight → List ℕ
-counted sights = by_place (λ place. count_by (counts (column_at place)) sights)
-
-abbrev pub greatest_rank : List Record → ℕ
-greatest_rank log = fold (λ most r. max most r.rank) 0 log
-
--- the numbers of a core
-abbrev pub core_counts : UnitParts → Numbers
-core_counts u = record { counts = counted (core_sights u); pts = u.pts; rank = greatest_rank u.log; mts = 0 }
-
--- the numbers of a slice
-abbrev pub slice_counts : SliceParts → Numbers
-slice_counts s = record { counts = counted (slice_sights s); pts = 0; rank = 0; mts = s.state.memory.mts }

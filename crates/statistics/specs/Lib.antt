@@ -1,7 +1,6 @@
 pub mod Columns
 pub mod Laws
-pub mod Runs
+pub mod Numbers
 pub mod Sights
 pub mod TableText
-pub mod Totals
 pub mod inner

@@ -1,7 +1,7 @@
 //! The columns of the table: the name of each, and what it counts.
 
 ghost use Rattle.std.specs.Prelude.{◌≡◌, ◌<◌};
-ghost use Rattle.statistics.specs.Columns.{column_at, column_name, counts, is_load, is_of_slices};
+ghost use Rattle.statistics.specs.Columns as columns;
 
 use super::sight::{Sight, is_request};
 use core_unit::CoreEntry;
@@ -65,7 +65,7 @@ pub(crate) const COLUMNS: [Column; COLUMN_COUNT] = [
 #[tactic(auto, unfolding(crate::specs::Columns::column_at))]
 pub(crate) fn column_at(place: usize) -> Column
     requires { place < COLUMN_COUNT }
-    ensures { result ≡ column_at place }
+    ensures { result ≡ columns.column_at place }
 {
     COLUMNS[place]
 }
@@ -73,7 +73,7 @@ pub(crate) fn column_at(place: usize) -> Column
 impl Column {
     /// Its name.
     pub(crate) fn name(self) -> &'static str
-        ensures { result.now ≡ column_name self }
+        ensures { result.now ≡ columns.column_name self }
     {
         match self {
             Column::Operations => "operations",
@@ -101,17 +101,24 @@ impl Column {
 
     /// Whether it has a number for each slice. Any other column has one for each core.
     pub(crate) fn is_of_slices(self) -> bool
-        ensures { result ≡ is_of_slices self }
+        ensures { result ≡ columns.is_of_slices self }
     {
-        match self {
-            Column::Requests | Column::GiveBacks | Column::Evictions | Column::Mts => true,
-            _ => false,
-        }
+        matches!(
+            self,
+            Column::Requests | Column::GiveBacks | Column::Evictions | Column::Mts
+        )
+    }
+
+    /// Whether it tells a stamp or a rank. Any other column counts sights.
+    pub(crate) fn is_greatest(self) -> bool
+        ensures { result ≡ columns.is_greatest self }
+    {
+        matches!(self, Column::Pts | Column::Mts | Column::Rank)
     }
 
     /// Whether it counts this sight. The columns of stamps and ranks count nothing.
     pub(crate) fn counts(self, sight: &Sight) -> bool
-        ensures { result ≡ counts self sight.now }
+        ensures { result ≡ columns.counts self sight.now }
     {
         match sight {
             Sight::Operation { act, came, due } => self.counts_operation(*act, *came, *due),
@@ -122,23 +129,23 @@ impl Column {
 
     // Whether it counts an operation.
     fn counts_operation(self, act: Act, came: bool, due: bool) -> bool
-        ensures { result ≡ counts self (Sight.Operation act came due) }
+        ensures { result ≡ columns.counts self (Sight.Operation act came due) }
     {
         match self {
             Column::Operations => true,
-            Column::Loads => is_load(act),
+            Column::Loads => matches!(act, Act::Load(_)),
             Column::Stores => matches!(act, Act::Store),
             Column::Swaps => matches!(act, Act::Swap(..)),
             Column::Hits => !came,
             Column::SelfIncrements => due,
-            Column::PrivateWrites => !came && !is_load(act),
+            Column::PrivateWrites => !came && !matches!(act, Act::Load(_)),
             _ => false,
         }
     }
 
     // Whether it counts another entry of a core.
     fn counts_entry(self, entry: &CoreEntry) -> bool
-        ensures { result ≡ counts self (Sight.Core entry.now) }
+        ensures { result ≡ columns.counts self (Sight.Core entry.now) }
     {
         match self {
             Column::ShReq => matches!(entry, CoreEntry::Got(Message::ShReq { .. }, _)),
@@ -161,7 +168,7 @@ impl Column {
 
     // Whether it counts an entry of a slice.
     fn counts_service(self, entry: &HistoryEntry) -> bool
-        ensures { result ≡ counts self (Sight.Slice entry.now) }
+        ensures { result ≡ columns.counts self (Sight.Slice entry.now) }
     {
         match entry {
             HistoryEntry::Evicted(_) => matches!(self, Column::Evictions),
@@ -172,11 +179,4 @@ impl Column {
             },
         }
     }
-}
-
-// Whether an act is a load.
-fn is_load(act: Act) -> bool
-    ensures { result ≡ is_load act }
-{
-    matches!(act, Act::Load(_))
 }

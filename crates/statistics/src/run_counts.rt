@@ -1,51 +1,77 @@
 //! The numbers of a run.
 
-ghost use Rattle.std.specs.Prelude.{◌≡◌, ◌≤◌, IfOk};
-ghost use Rattle.statistics.specs.Runs.{run_numbers};
+ghost use Rattle.std.specs.Prelude.{◌≡◌, ◌≤◌, length, map, take};
+ghost use Rattle.statistics.specs.Numbers as numbers;
 
 use super::numbers::Numbers;
-use super::run_parts::{counts_of_cores, counts_of_slices};
 use core_unit::CoreUnit;
 use manager_slice::ManagerSlice;
-use std::alloc::{AllocError, Global};
 use std::marker::Model;
 
-/// The numbers of a run: those of its cores and those of its slices, at most 64 of each.
+/// The numbers of a run: those of its cores and slices, at most 64 of each, as one.
 #[derive(Drop)]
 pub struct RunCounts {
-    /// Those of its cores, core 0's first.
-    pub(crate) cores: Vec<Numbers>,
-    /// Those of its slices, slice 0's first.
-    pub(crate) slices: Vec<Numbers>,
+    pub(crate) numbers: Numbers,
 }
 
 impl Model for RunCounts {
-    ghost use Rattle.std.specs.Prelude.{◌≤◌, length};
-    ghost use Rattle.statistics.specs.Runs.{RunNumbers};
+    ghost use Rattle.statistics.specs.Numbers.{IsBounded};
+    ghost use Rattle.statistics.specs.declared.numbers.Numbers.{Numbers};
 
-    ghost Value = { RunNumbers };
+    ghost Value = { Numbers };
 
-    ghost view = { λ run. record { cores = run.cores.items; slices = run.slices.items } };
+    ghost view = { λ run. run.numbers };
 
-    ghost invariant = { λ run. (length run.cores.items ≤ 64) × (length run.slices.items ≤ 64) };
+    ghost invariant = { λ run. IsBounded 1 run.numbers };
 }
 
 impl RunCounts {
-    /// The numbers of so many cores and slices of a run, or of all if there are fewer. Err if memory was refused.
+    /// The numbers of so many cores and slices of a run, or of all if there are fewer. Takes no memory.
     pub fn of(
-        alloc: Global,
         units: &[CoreUnit],
         managers: &[ManagerSlice],
         cores: usize,
         slices: usize,
-    ) -> Result<RunCounts, AllocError>
+    ) -> RunCounts
         requires cores { cores ≤ 64 }
         requires slices { slices ≤ 64 }
-        ensures { IfOk result (λ counts. counts ≡ run_numbers cores slices units.now managers.now) }
+        ensures { result ≡ numbers.run_numbers cores slices units.now managers.now }
     {
-        Ok(RunCounts {
-            cores: counts_of_cores(alloc, units, cores)?,
-            slices: counts_of_slices(alloc, managers, slices)?,
-        })
+        let mut numbers = of_cores(first(units, cores));
+        numbers.join(&of_slices(first(managers, slices)));
+        RunCounts { numbers }
     }
+}
+
+/// The totals over cores.
+fn of_cores(units: &[CoreUnit]) -> Numbers
+    requires { length units.now ≤ 64 }
+    ensures totals { result ≡ numbers.totals_of (map numbers.core_counts units.now) }
+    ensures bounded { numbers.IsBoundedBy 64 result }
+{
+    let mut totals = Numbers::none();
+    for unit in units {
+        totals.join(&Numbers::of_core(unit));
+    }
+    totals
+}
+
+/// The totals over slices.
+fn of_slices(managers: &[ManagerSlice]) -> Numbers
+    requires { length managers.now ≤ 64 }
+    ensures totals { result ≡ numbers.totals_of (map numbers.slice_counts managers.now) }
+    ensures bounded { numbers.IsBoundedBy 64 result }
+{
+    let mut totals = Numbers::none();
+    for slice in managers {
+        totals.join(&Numbers::of_slice(slice));
+    }
+    totals
+}
+
+/// So many items, or all if there are fewer.
+pub(crate) fn first<T>(items: &[T], count: usize) -> &[T]
+    ensures { result.now ≡ take count items.now }
+{
+    items.get(..count).unwrap_or(items)
 }

@@ -9,4 +9,5 @@ invariant-loop-place l = record {
   long : length l.counts ≡ column_count;
   below : (k : ℕ) → k < l.place → get_or l.counts k 0 ≡ get_or l.initial.counts k 0 + told k l.sight;
   above : (k : ℕ) → l.place ≤ k → get_or l.counts k 0 ≡ get_or l.initial.counts k 0;
+  limit : (k : ℕ) → get_or l.counts k 0 ≤ get_or l.initial.counts k 0 + 1;
 }
