@@ -1,6 +1,8 @@
 -- The cases that steps leave, step by step.
-use Rattle.std.specs.Prelude.{◌≡◌, ℕ, ◌+◌, ◌<◌, ◌≤◌, List, [], ◌∷◌, ◌++◌, Option, None, Some, MatchOption, length, take}
-use Rattle.std.proofs.Common.{rules, sym, ◌∙◌, ap, subst, arith, get_or}
+use Rattle.std.specs.Prelude.{◌≡◌, ℕ, ◌+◌, ◌<◌, List, [], ◌∷◌, ◌++◌, Option, MatchOption, length, take, nat_lt}
+use Rattle.std.specs.Bool.{then_some}
+use Rattle.std.proofs.Common.{rules, sym, ◌∙◌, ap, subst, arith, get_or, inl, inr}
+use Rattle.std.proofs.lemmas.Bool.{cases_lt, lt-ltb, le-ltb}
 use Rattle.std.proofs.lemmas.List.{take_more, drop_more, take_all, take-append-drop}
 use Rattle.mem_op.specs.Consistency.{Operation}
 use Rattle.refutation.specs.declared.step.Step.{Step}
@@ -53,8 +55,9 @@ right-next cores steps place facts others step given within is right gives =
     rw (take_more steps place step within, ← is) (leave-push cores ([] ∷ []) (take place steps) facts others step given right gives)
 
 -- no case is left: the answer is the next step, if there is one
-pub answer-after : (cores : List (List Operation)) (steps : List Step) (next : ℕ) (answer : Option ℕ) → Leave cores ([] ∷ []) (take next steps) [] → MatchOption answer (length steps ≤ next) (λ place. (place ≡ next) × (next < length steps))
-    → MatchOption answer (IsRefutation cores steps) (λ place. IsFirstWrong cores steps place)
-answer-after cores steps next None right told = rw (take_all next steps told) at right
-answer-after cores steps next (Some place) right told =
-    rw told.0 record { within = (let l = told.1 in omega arith); left = []; right = right; stuck = rw (drop_more steps next (Cycle []) told.1) tt }
+pub answer-after : (cores : List (List Operation)) (steps : List Step) (next : ℕ) (answer : Option ℕ) → Leave cores ([] ∷ []) (take next steps) []
+    → answer ≡ then_some (nat_lt next (length steps)) next → MatchOption answer (IsRefutation cores steps) (λ place. IsFirstWrong cores steps place)
+answer-after cores steps next answer right told = elim (cases_lt next (length steps)) [
+  | inl l ↦ rw (told, lt-ltb next (length steps) l) record { within = omega arith; left = []; right = right; stuck = rw (drop_more steps next (Cycle []) l) tt }
+  | inr l ↦ rw (told, le-ltb next (length steps) l) (rw (take_all next steps l) at right)
+]

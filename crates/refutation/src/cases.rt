@@ -15,16 +15,6 @@ struct Waiting {
     fact: Known,
 }
 
-impl Model for Waiting {
-    ghost use Rattle.refutation.specs.inner.Waiting.{WaitingParts};
-
-    ghost Value = { WaitingParts };
-
-    ghost view = { λ w. record { kept = w.kept; fact = w.fact } };
-
-    ghost inverse = { λ w. record { kept = w.kept; fact = w.fact } };
-}
-
 /// The open cases, at least one: the facts in force in the first, and the others, which wait.
 #[derive(Drop)]
 pub(crate) struct Cases {

@@ -112,13 +112,6 @@ fn is_right(
     }
 }
 
-/// This many zeros.
-fn zeros(alloc: Global, count: usize) -> Result<Vec<u64>, AllocError>
-    ensures { IfOk result (λ zeros. zeros.items ≡ replicate count 0) }
-{
-    vec![in alloc; 0; count]
-}
-
 /// Whether the first state is seen.
 fn has_first(
     alloc: Global,
@@ -128,8 +121,8 @@ fn has_first(
 ) -> Result<bool, AllocError>
     ensures { IfOk result (λ has. has ≡ is_among_settled trace.now addresses.now seen.now.keys (map (λ _. 0) trace.now) (map (λ _. 0) addresses.now)) }
 {
-    let next = zeros(alloc, trace.cores().len())?;
-    let words = zeros(alloc, addresses.len())?;
+    let next = vec![in alloc; 0; trace.cores().len()]?;
+    let words = vec![in alloc; 0; addresses.len()]?;
     is_in(alloc, trace, addresses, seen, &next, words)
 }
 

@@ -6,7 +6,7 @@ ghost use Rattle.refutation.specs.inner.Dead.{NoneStoresOf};
 ghost use Rattle.refutation.specs.inner.Lasts.{AreUpTo};
 
 use super::indexed::Indexed;
-use super::moves::{access_at, next_operation, number_of, word_of};
+use super::moves::{next_operation, number_of, word_of};
 use mem_op::Word;
 use trace::{Access, Address};
 
@@ -16,7 +16,7 @@ fn none_stores_of(operations: &[Access], from: u64, to: u64, addr: Address, word
 {
     let mut index = from;
     while index < to {
-        let Some(access) = access_at(operations, index) else {
+        let Some(access) = operations.get(index as usize) else {
             return true;
         };
         if access.stores(addr, word) {

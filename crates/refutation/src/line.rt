@@ -93,14 +93,11 @@ fn read_read(alloc: Global, fields: &[u8]) -> Result<Option<Step>, AllocError>
 fn read_from_read(alloc: Global, fields: &[u8]) -> Result<Option<Step>, AllocError>
     ensures { IfOk result (TellsStep (codes "from-read ") fields.now) }
 {
-    match read_reason(alloc, fields)? {
-        Some(reason) => Ok(Some(Step::FromRead {
-            source: reason.source,
-            write: reason.write,
-            path: reason.path,
-        })),
-        None => Ok(None),
-    }
+    Ok(read_reason(alloc, fields)?.map(|reason| Step::FromRead {
+        source: reason.source,
+        write: reason.write,
+        path: reason.path,
+    }))
 }
 
 /// The step of write-order that has these fields; None if there is no such step.
@@ -108,14 +105,11 @@ fn read_from_read(alloc: Global, fields: &[u8]) -> Result<Option<Step>, AllocErr
 fn read_write_order(alloc: Global, fields: &[u8]) -> Result<Option<Step>, AllocError>
     ensures { IfOk result (TellsStep (codes "write-order ") fields.now) }
 {
-    match read_reason(alloc, fields)? {
-        Some(reason) => Ok(Some(Step::WriteOrder {
-            source: reason.source,
-            write: reason.write,
-            path: reason.path,
-        })),
-        None => Ok(None),
-    }
+    Ok(read_reason(alloc, fields)?.map(|reason| Step::WriteOrder {
+        source: reason.source,
+        write: reason.write,
+        path: reason.path,
+    }))
 }
 
 /// The step that closes a case by a cycle and has these fields; None if there is no such step.
@@ -123,10 +117,7 @@ fn read_write_order(alloc: Global, fields: &[u8]) -> Result<Option<Step>, AllocE
 fn read_cycle(alloc: Global, fields: &[u8]) -> Result<Option<Step>, AllocError>
     ensures { IfOk result (TellsStep (codes "cycle :") fields.now) }
 {
-    match read_path(alloc, fields)? {
-        Some(path) => Ok(Some(Step::Cycle { path })),
-        None => Ok(None),
-    }
+    Ok(read_path(alloc, fields)?.map(|path| Step::Cycle { path }))
 }
 
 /// The step whose line this is, without its line feed; None if it isn't the line of a step.

@@ -90,13 +90,6 @@ fn passes(word: Option<Word>, access: &Access) -> bool
     }
 }
 
-/// The operation of a core at an index.
-pub(crate) fn access_at(operations: &[Access], index: u64) -> Option<Access>
-    ensures { result ≡ slice_get operations.now index }
-{
-    operations.get(index as usize).copied()
-}
-
 /// The index of the first of a core's operations, from this one on, that doesn't pass.
 fn settled_index(operations: &[Access], from: u64, addresses: &[Address], words: &[Word]) -> u64
     ensures { result ≡ from + prefix_len (λ y. passes (word_of addresses.now words.now (address_of y)) y) (drop from operations.now) }
