@@ -1,6 +1,6 @@
 //! Whether a set of states is closed.
 
-ghost use Rattle.std.specs.Prelude.{◌≡◌, ◌↔◌, ◌+◌, ℕ, IsTrue, IfOk, MatchBool, replicate, slice_set, map};
+ghost use Rattle.std.specs.Prelude.{◌≡◌, ◌↔◌, ◌+◌, ℕ, IsTrue, IfOk, MatchBool, slice_set, map};
 ghost use Rattle.mem_op.specs.Consistency.{word_left};
 ghost use Rattle.flat_replay.specs.Accesses.{address_of};
 ghost use Rattle.refutation.specs.States.{put_word, next_of, words_of, LeadsBack, IsRightState, IsClosedSet};

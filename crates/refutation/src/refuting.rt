@@ -1,6 +1,6 @@
 //! The check of a refutation.
 
-ghost use Rattle.std.specs.Prelude.{◌≡◌, ◌<◌, ◌≤◌, ◌^◌, ◌↔◌, IsTrue, IfOk, IfSome, MatchOption};
+ghost use Rattle.std.specs.Prelude.{◌<◌, ◌^◌, ◌↔◌, IsTrue, IfOk, IfSome, MatchOption};
 ghost use Rattle.mem_op.specs.Consistency.{IsConsistent};
 ghost use Rattle.refutation.specs.Refuting.{IsRefutation, IsFirstWrong};
 

@@ -1,13 +1,13 @@
 //! The rules: the cases that a step gives.
 
-ghost use Rattle.std.specs.Prelude.{◌≡◌, ◌↔◌, IsTrue, [], IfOk, map};
+ghost use Rattle.std.specs.Prelude.{◌≡◌, ◌↔◌, IsTrue, [], ◌∷◌, IfOk, IsSomeAnd, MatchOption, None, map};
 ghost use Rattle.refutation.specs.declared.fact.Fact.TheVariants.{Source};
 ghost use Rattle.refutation.specs.Rules.{Gives, HasItsSourceIn, IsOtherWrite, IsFromRead, IsWriteOrder};
 ghost use Rattle.refutation.specs.States.{IsClosedSet};
-ghost use Rattle.refutation.specs.inner.Answers.{TellsGiven, TellsOne, TellsReading, IsCaseOf};
+ghost use Rattle.refutation.specs.inner.Answers.{TellsGiven, TellsOne};
 
 use super::closed::is_closed;
-use super::covering::{Reading, cover};
+use super::covering::cover;
 use super::fact::{Fact, Known, fact_at};
 use super::path::{is_cycle, leads};
 use super::state::StateSet;
@@ -15,19 +15,6 @@ use super::step::{Point, Range, Step};
 use mem_op::OpId;
 use std::alloc::{AllocError, Global};
 use trace::{Address, Trace};
-
-/// The load or swap of an id.
-fn reading(trace: &Trace, id: &OpId) -> Option<Reading>
-    ensures { TellsReading trace.now id.now result }
-{
-    let access = trace.operation(id)?;
-    let value = access.read()?;
-    Some(Reading {
-        id: *id,
-        addr: access.addr(),
-        value,
-    })
-}
 
 /// That a read's source lies in a range, for each of these ranges.
 fn sources(alloc: Global, read: &OpId, ranges: &[Range]) -> Result<Vec<Known>, AllocError>
@@ -49,8 +36,13 @@ fn by_source(
     ensures { IfOk result (TellsGiven (λ given.
         HasItsSourceIn trace.now read.now ranges.now × (given ≡ map (λ range. Source read.now range) ranges.now))) }
 {
-    match reading(trace, read) {
-        Some(found) if cover(trace, &found, ranges) => Ok(Some(sources(alloc, read, ranges)?)),
+    let Some(access) = trace.operation(read) else {
+        return Ok(None);
+    };
+    match access.read() {
+        Some(value) if cover(trace, read, access.addr(), value, ranges) => {
+            Ok(Some(sources(alloc, read, ranges)?))
+        }
         _ => Ok(None),
     }
 }
@@ -105,7 +97,7 @@ fn write_order(
 
 /// The one case of a fact that follows.
 fn one_case(alloc: Global, fact: Option<Known>) -> Result<Option<Vec<Known>>, AllocError>
-    ensures { IfOk result (λ facts. IsCaseOf fact facts) }
+    ensures { IfOk result (λ facts. MatchOption fact (facts ≡ None) (λ f. IsSomeAnd facts (λ given. given.items ≡ f ∷ []))) }
 {
     let Some(fact) = fact else {
         return Ok(None);
