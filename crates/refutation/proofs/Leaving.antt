@@ -42,16 +42,16 @@ stuck-not : (cores : List (List Operation)) (left : List (List Fact)) (steps : L
 stuck-not cores left steps stuck leave = search rules
 
 -- what goes wrong somewhere is no refutation
-pub wrong-none : (cores : List (List Operation)) (steps : List Step) (place : ℕ) → IsFirstWrong cores steps place → IsRefutation cores steps → ⊥
-wrong-none cores steps place wrong is = search (rules, stuck-not, leave-rest, take-append-drop)
+pub wrong_none : (cores : List (List Operation)) (steps : List Step) (place : ℕ) → IsFirstWrong cores steps place → IsRefutation cores steps → ⊥
+wrong_none cores steps place wrong is = search (rules, stuck-not, leave-rest, take-append-drop)
 
 -- ---- where the steps are gone through one by one
 
 -- a step that is right
-pub right-next : (cores : List (List Operation)) (steps : List Step) (place : ℕ) (facts : List Fact) (others : List (List Fact)) (step : Step)
+pub right_next : (cores : List (List Operation)) (steps : List Step) (place : ℕ) (facts : List Fact) (others : List (List Fact)) (step : Step)
     → (given : List Fact) → place < length steps → step ≡ get_or steps place step → Leave cores ([] ∷ []) (take place steps) (facts ∷ others)
     → Gives cores facts step given → Leave cores ([] ∷ []) (take (place + 1) steps) (split facts given ++ others)
-right-next cores steps place facts others step given within is right gives =
+right_next cores steps place facts others step given within is right gives =
     rw (take_more steps place step within, ← is) (leave-push cores ([] ∷ []) (take place steps) facts others step given right gives)
 
 -- no case is left: the answer is the next step, if there is one

@@ -144,7 +144,7 @@ module _ (cores : List (List Operation)) (time : Point → ℕ) (timing : IsTimi
   left-one (facts ∷ others) (step ∷ steps) left (inr some) leave =
       left-one (split facts leave.0 ++ others) steps left (some-other cores time (split facts leave.0) others some) leave.2
 
-pub refutations-hold : RefutationsHold
-refutations-hold cores steps is consistent =
+pub refutations_hold : RefutationsHold
+refutations_hold cores steps is consistent =
     left-one cores (time_in consistent.0) (timing-in cores consistent.0 consistent.1)
     (λ facts all addresses states closed. no-closed cores consistent.0 consistent.1 addresses facts all states closed) ([] ∷ []) steps [] (inl (λ number fact at. absurd cc)) is

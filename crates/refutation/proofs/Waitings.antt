@@ -43,10 +43,10 @@ module _ (facts given : List Fact) (waiting rest : List Waiting) (case : Waiting
   now-nested : (case.kept ≤ length facts) × AreNested case.kept (reverse rest)
   now-nested = subst (AreNested (length facts)) now-kept (nested-added (length facts) given (reverse waiting) nested)
 
-  pub next-nested : AreNested (length (take case.kept facts ++ case.fact ∷ [])) (reverse rest)
-  next-nested = grind (arith, common_steps, now-nested, length-take, nested-weak)
+  pub next_nested : AreNested (length (take case.kept facts ++ case.fact ∷ [])) (reverse rest)
+  next_nested = grind (arith, common_steps, now-nested, length-take, nested-weak)
 
-  pub next-cases : split facts given ++ cases_of facts waiting ≡ (take case.kept facts ++ case.fact ∷ []) ∷ cases_of (take case.kept facts ++ case.fact ∷ []) rest
-  next-cases =
+  pub next_cases : split facts given ++ cases_of facts waiting ≡ (take case.kept facts ++ case.fact ∷ []) ∷ cases_of (take case.kept facts ++ case.fact ∷ []) rest
+  next_cases =
       sym (on-added facts given (reverse waiting)) ∙ ap (on facts) now-kept
       ∙ ap (λ cases. (take case.kept facts ++ case.fact ∷ []) ∷ cases) (sym (on-same case.kept facts (case.fact ∷ []) (reverse rest) now-nested.0 now-nested.1))

@@ -66,6 +66,7 @@ impl Cases {
     }
 
     /// The cases that are left when the first is split into one for each of these facts; None if none is left.
+    #[tactic(auto, using(crate::proofs::Waitings::next_nested, crate::proofs::Waitings::next_cases))]
     pub(crate) fn split(self, given: Vec<Known>) -> Result<Option<Cases>, AllocError>
         ensures { IfOk result (λ left. let now = split self.facts given.items ++ self.others in
             MatchOption left (now ≡ []) (λ next. now ≡ next.facts ∷ next.others)) }

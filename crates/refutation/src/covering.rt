@@ -50,6 +50,7 @@ fn cover_core(
 }
 
 /// Whether the ranges have all that may give a read of an address its value, the initial 0 too.
+#[tactic(auto, using(crate::proofs::Firsts::core_at, crate::proofs::Firsts::first_more))]
 pub(crate) fn cover(
     trace: &Trace,
     read: &OpId,

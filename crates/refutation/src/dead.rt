@@ -40,6 +40,7 @@ fn none_stores_of(
 }
 
 /// Whether no operation from these indices on and before the limits stores a word to an address.
+#[tactic(auto, using(crate::proofs::Firsts::core_at, crate::proofs::Firsts::first_more))]
 fn none_stores(trace: &Indexed, next: &[u64], limits: &[u64], addr: Address, word: Word) -> bool
     ensures { MatchBool result (NoneStores trace.now next.now limits.now addr word) (¬ NoneStores trace.now next.now limits.now addr word) }
 {

@@ -14,6 +14,7 @@ use std::alloc::{AllocError, Global};
 use text_lines::read_spaced;
 
 /// The ranges that the bytes spell, each with a space before it; None if the bytes are something else.
+#[tactic(auto, using(crate::proofs::Parts::ranges_are_words, text_lines::proofs::SpacedWords::word_shorter))]
 fn read_ranges(alloc: Global, bytes: &[u8]) -> Result<Option<Ranges>, AllocError>
     ensures { IfOk result (TellsWords range_text RangeFits bytes.now) }
 {
@@ -31,6 +32,7 @@ fn read_ranges(alloc: Global, bytes: &[u8]) -> Result<Option<Ranges>, AllocError
 }
 
 /// The path whose numbers the bytes spell, each with a space before it; None if the bytes are something else.
+#[tactic(auto, using(text_lines::proofs::SpacedWords::numbers_are_words, text_lines::proofs::SpacedWords::word_shorter))]
 fn read_path(alloc: Global, bytes: &[u8]) -> Result<Option<Path>, AllocError>
     ensures { IfOk result (TellsWords numeral (λ number. number < 2 ^ 64) bytes.now) }
 {
@@ -56,6 +58,7 @@ struct Reason {
 }
 
 /// The number of a fact, the write and the path that the bytes spell; None if the bytes are something else.
+#[tactic(auto, using(crate::proofs::StepLines::reason_no_source, crate::proofs::StepLines::reason_no_write))]
 fn read_reason(alloc: Global, bytes: &[u8]) -> Result<Option<Reason>, AllocError>
     ensures { IfOk result (TellsReason bytes.now) }
 {

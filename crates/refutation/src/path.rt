@@ -35,6 +35,7 @@ pub(crate) fn leads(facts: &[Known], from: &Point, path: &[usize], to: &Point) -
 }
 
 /// Whether the facts of a path lead from a point back to it, by one fact or more.
+#[tactic(auto, using(crate::proofs::Paths::is_cycle_exact))]
 pub(crate) fn is_cycle(facts: &[Known], path: &[usize]) -> bool
     ensures { IsTrue result ↔ IsCycle facts.now path.now }
 {

@@ -13,6 +13,7 @@ use trace::Trace;
 /// The place of the first step that isn't right or comes after the last case was closed; the number of steps if cases are
 /// left after the last step; None if the steps are a refutation of the trace. This doesn't trust whoever made them. Err if
 /// memory was refused.
+#[tactic(auto, using(crate::proofs::Leaving::right_next))]
 pub fn first_wrong_step(
     alloc: Global,
     trace: &Trace,
@@ -40,6 +41,7 @@ pub fn first_wrong_step(
 
 /// Whether the steps are a refutation of the trace. If they are, the trace isn't consistent. This doesn't trust whoever made
 /// the steps. Err if memory was refused.
+#[tactic(auto, using(crate::proofs::Leaving::wrong_none, crate::proofs::Sound::refutations_hold))]
 pub fn refutes(alloc: Global, trace: &Trace, refutation: &Refutation) -> Result<bool, AllocError>
     ensures exact { IfOk result (λ refuted. IsTrue refuted ↔ IsRefutation trace.now refutation.now) }
     ensures sound { IfOk result (λ refuted. IsTrue refuted → ¬ IsConsistent trace.now) }

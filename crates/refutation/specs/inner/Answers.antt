@@ -1,5 +1,5 @@
 -- What private functions tell.
-use Rattle.std.specs.Prelude.{◌≡◌, List, [], ◌∷◌, Option, Some, None}
+use Rattle.std.specs.Prelude.{List, [], ◌∷◌, Option, Some, None}
 use Rattle.std.specs.Global.{Vec}
 use Rattle.refutation.specs.declared.fact.Fact.{Fact}
 
