@@ -7,7 +7,7 @@ ghost use Rattle.refutation.specs.States.{put_word, next_of, words_of, LeadsBack
 ghost use Rattle.refutation.specs.inner.Seen.{is_among_settled, IsAmong};
 
 use super::dead::is_dead;
-use super::fact::Known;
+use super::fact::Fact;
 use super::indexed::Indexed;
 use super::moves::{may_go, next_operation, put_word, settle, step};
 use super::seen::Seen;
@@ -60,7 +60,7 @@ fn leads_into(
 fn leads_back(
     alloc: Global,
     trace: &Trace,
-    facts: &[Known],
+    facts: &[Fact],
     addresses: &[Address],
     seen: &Seen,
     state: &State,
@@ -87,7 +87,7 @@ fn leads_back(
 fn is_right(
     alloc: Global,
     trace: &Indexed,
-    facts: &[Known],
+    facts: &[Fact],
     addresses: &[Address],
     seen: &Seen,
     state: &State,
@@ -131,7 +131,7 @@ fn has_first(
 pub(crate) fn is_closed(
     alloc: Global,
     trace: &Trace,
-    facts: &[Known],
+    facts: &[Fact],
     addresses: &[Address],
     set: &StateSet,
 ) -> Result<bool, AllocError>
