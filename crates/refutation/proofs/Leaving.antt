@@ -17,10 +17,7 @@ use Rattle.refutation.specs.Refuting.{split, Leave, IsRefutation, IsStuck, IsFir
 pub leave-push : (cores : List (List Operation)) (cases : List (List Fact)) (steps : List Step) (facts : List Fact) (others : List (List Fact)) (step : Step) (given : List Fact)
     → Leave cores cases steps (facts ∷ others) → Gives cores facts step given → Leave cores cases (steps ++ step ∷ []) (split facts given ++ others)
 leave-push cores [] [] facts others step given none gives = absurd cc
-leave-push cores (first ∷ waiting) [] facts others step given same gives =
-    let a : first ≡ facts = cc in
-    let b : waiting ≡ others = cc in
-    (given, subst (λ (fs : List Fact). Gives cores fs step given) (sym a) gives, ap (λ (fs : List Fact). split fs given ++ waiting) a ∙ ap (λ (cs : List (List Fact)). split facts given ++ cs) b)
+leave-push cores (first ∷ waiting) [] facts others step given same gives = search rules
 leave-push cores [] (s ∷ steps) facts others step given wrong gives = absurd wrong
 leave-push cores (first ∷ waiting) (s ∷ steps) facts others step given leave gives =
     (leave.0, leave.1, leave-push cores (split first leave.0 ++ waiting) steps facts others step given leave.2 gives)

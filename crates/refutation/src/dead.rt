@@ -2,8 +2,7 @@
 
 ghost use Rattle.std.specs.Prelude.{◌≡◌, ◌≤◌, ◌<◌, MatchBool, length};
 ghost use Rattle.refutation.specs.States.{IsDead, NoneStores, Waits};
-ghost use Rattle.refutation.specs.inner.Dead.{NoneStoresOf};
-ghost use Rattle.refutation.specs.inner.Lasts.{AreUpTo};
+ghost use Rattle.refutation.specs.inner.Lasts.{AreUpTo, NoneStoresOf};
 
 use super::indexed::Indexed;
 use super::moves::{next_operation, number_of, word_of};
