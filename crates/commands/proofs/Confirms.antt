@@ -6,7 +6,7 @@ use Rattle.command_line.specs.declared.request.Confirm.{Confirm}
 use Rattle.command_line.specs.declared.request.TraceFiles.{TraceFiles}
 use Rattle.log_file.specs.Devices.{Tells}
 use Rattle.mem_op.specs.Consistency.{Operation}
-use Rattle.refutation.proofs.Sound.{refutations-hold}
+use Rattle.refutation.proofs.Sound.{refutations_hold}
 use Rattle.commands.specs.SearchAnswers.{IsRightOf}
 use Rattle.commands.specs.Confirming.{Certifies, IsConfirmed}
 use Rattle.commands.proofs.Searches.{no_right}
@@ -21,8 +21,8 @@ use Rattle.commands.specs.declared.refusal.Refusal.TheVariants.{Judge, Trace, Ce
 -- the answer that a text certifies is right
 pub right_of : (files : TraceFiles) (cores : List (List Operation)) (text : List ℕ) (answer : SearchAnswer) → Certifies files cores text answer → IsRightOf cores answer
 right_of files cores text (Yes operations) ((order, is, spells), many) = ((order, is), many)
-right_of files cores text (No operations) ((steps, spells, is), told) = subst (IsRightOf cores) (sym told) (no_right files cores (refutations-hold cores steps is))
-right_of files cores text (NoBySources operations) ((steps, spells, is), told) = subst (IsRightOf cores) (sym told) (no_right files cores (refutations-hold cores steps is))
+right_of files cores text (No operations) ((steps, spells, is), told) = subst (IsRightOf cores) (sym told) (no_right files cores (refutations_hold cores steps is))
+right_of files cores text (NoBySources operations) ((steps, spells, is), told) = subst (IsRightOf cores) (sym told) (no_right files cores (refutations_hold cores steps is))
 
 -- the files tell no trace
 pub traceless : (old new : Files) (unread : List ℕ → Type 0) (asked : Confirm) (fault : Refusal) → AreTraceless old.told unread asked.trace fault

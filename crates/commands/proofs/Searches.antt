@@ -9,7 +9,7 @@ use Rattle.command_line.specs.declared.request.TraceFiles.TheVariants.{One, Logs
 use Rattle.mem_op.specs.Consistency.{Operation, IsConsistent}
 use Rattle.refutation.specs.declared.answer.Answer.{Answer}
 use Rattle.refutation.specs.declared.answer.Answer.TheVariants as found
-use Rattle.refutation.proofs.Sound.{refutations-hold}
+use Rattle.refutation.proofs.Sound.{refutations_hold}
 use Rattle.telling.specs.FirstLines.{operation_count}
 use Rattle.commands.specs.Naming.{IsNameless}
 use Rattle.commands.specs.SearchAnswers.{IsRightOf, no_of}
@@ -34,7 +34,7 @@ no_right (Sourced names) cores isnt = (isnt, refl)
 pub right_of : (files : TraceFiles) (cores : List (List Operation)) (proof : Answer) (answer : SearchAnswer) → IsProof cores proof → AnswersBy files cores proof answer
     → IsRightOf cores answer
 right_of files cores (found.Order order) answer is by = subst (IsRightOf cores) (sym by) ((order.items, is), refl)
-right_of files cores (found.Refutation steps) answer is by = subst (IsRightOf cores) (sym by) (no_right files cores (refutations-hold cores steps is))
+right_of files cores (found.Refutation steps) answer is by = subst (IsRightOf cores) (sym by) (no_right files cores (refutations_hold cores steps is))
 right_of files cores found.Undecided answer is by = absurd is
 
 -- ---- the whole
@@ -75,7 +75,7 @@ pub unput : (old new : Files) (unread : List ℕ → Type 0) (asked : Search) (c
 unput old new unread asked cores (found.Order order) fault is proves why =
     unput_at (λ f. IsSearched old new unread asked (Err f)) (Unwritten output.Order) old new asked.order fault why (λ fails. ((cores, is, (order.items, proves)), fails)) tt
 unput old new unread asked cores (found.Refutation steps) fault is proves (inl why) =
-    unput_at (λ f. IsSearched old new unread asked (Err f)) (Unwritten output.Refutation) old new asked.refutation fault why (λ fails. ((cores, is, refutations-hold cores steps proves), fails)) tt
+    unput_at (λ f. IsSearched old new unread asked (Err f)) (Unwritten output.Refutation) old new asked.refutation fault why (λ fails. ((cores, is, refutations_hold cores steps proves), fails)) tt
 unput old new unread asked cores (found.Refutation steps) fault is proves (inr (between, puts, why)) =
     unput_at (λ f. IsSearched old new unread asked (Err f)) (Unwritten output.Picture) between new asked.picture fault why (λ fails. (cores, is, (steps, proves, (between, puts, fails)))) tt
 unput old new unread asked cores found.Undecided fault is proves why = absurd proves

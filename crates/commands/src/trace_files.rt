@@ -56,7 +56,7 @@ fn shows_states(proof: &Answer) -> bool {
     match proof {
         Answer::Refutation(refutation) => {
             refutation
-                .steps()
+                .as_slice()
                 .iter()
                 .any(|step| matches!(step, Step::States { .. }))
         }

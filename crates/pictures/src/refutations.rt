@@ -26,7 +26,7 @@ pub fn draw_refutation(
 ) -> Result<String, AllocError>
     ensures picture { IfOk result (λ svg. IsPicture (string_bytes svg)) }
 {
-    let steps = refutation.steps();
+    let steps = refutation.as_slice();
     let mut walk = Walk::new(alloc);
     let mut last = None;
     for step in steps {

@@ -14,8 +14,8 @@ module _ {A : Type 0} (P : ℕ → A → Type 0) (at : ℕ → Option A) where
   abbrev pub First : ℕ → Type 0
   First n = (k : ℕ) (x : A) → k < n → at k ≡ Some x → P k x
 
-  pub first-more : {n : ℕ} (x : A) → at n ≡ Some x → First n → P n x → First (n + 1)
-  first-more {n} x here first holds k y below there = search (rules, cases_lt, same_Some)
+  pub first_more : {n : ℕ} (x : A) → at n ≡ Some x → First n → P n x → First (n + 1)
+  first_more {n} x here first holds k y below there = search (rules, cases_lt, same_Some)
 
   -- nothing is there
   pub first-skip : {n : ℕ} → at n ≡ None → First n → First (n + 1)

@@ -22,6 +22,6 @@ judged : (cores : List (List Operation)) (text rest : List ℕ) (steps : List St
     → TellsEnd rest (length steps) bad → IsRefutation cores steps → MatchOption bad (SpellsRefutation cores text) (λ line. IsFirstBad cores text line)
 judged cores text rest steps bad begins told is = search rules
 
-pub judged-right : (cores : List (List Operation)) (text : List ℕ) (front : Front) (steps : List Step) → TellsText text front → front.bad_line ≢ Some 1 → steps ≡ front.steps.items → IsRefutation cores steps
+pub judged_right : (cores : List (List Operation)) (text : List ℕ) (front : Front) (steps : List Step) → TellsText text front → front.bad_line ≢ Some 1 → steps ≡ front.steps.items → IsRefutation cores steps
     → MatchOption front.bad_line (SpellsRefutation cores text) (λ line. IsFirstBad cores text line)
-judged-right cores text front steps told other same is = search (rules, judged)
+judged_right cores text front steps told other same is = search (rules, judged)

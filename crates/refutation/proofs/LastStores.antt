@@ -8,18 +8,18 @@ use Rattle.std.proofs.lemmas.Option.{gets}
 use Rattle.mem_op.specs.Consistency.{Operation, is_store_to, word_left}
 use Rattle.flat_replay.specs.Accesses.{address_of}
 use Rattle.refutation.specs.inner.Lasts.{HasLasts, same_pair}
-use Rattle.refutation.proofs.Firsts.{First, first-more}
+use Rattle.refutation.proofs.Firsts.{First, first_more}
 use Rattle.refutation.proofs.Runs.{store-address}
 
 module _ {S : Type 0} (operations : List Operation) (n : ℕ) (y : Operation) (here : slice_get operations n ≡ Some y) where
   -- one that stores nothing
   pub lasts-same : (lasts : HashMap (ℕ × ℕ) ℕ S) → HasLasts operations n lasts → is_store_to (address_of y) y ≡ false → HasLasts operations (n + 1) lasts
-  lasts-same lasts has none = search (rules, first-more, store-address)
+  lasts-same lasts has none = search (rules, first_more, store-address)
 
   -- one that stores, and is the last now
   pub lasts-more : (old new : HashMap (ℕ × ℕ) ℕ S) → HasLasts operations n old
       → ((q : ℕ × ℕ) → get same_pair new q ≡ cond (same_pair (address_of y, word_left y) q) (Some n) (get same_pair old q)) → HasLasts operations (n + 1) new
-  lasts-more old new has updated addr word = search (rules, first-more, store-address, cases_Bool)
+  lasts-more old new has updated addr word = search (rules, first_more, store-address, cases_Bool)
 
 -- ---- core by core
 
@@ -32,7 +32,7 @@ module _ {S : Type 0} where
       → slice_get cores n ≡ Some operations → HasLastsOfFirst cores n all → HasLasts operations (length operations) lasts → HasLastsOfFirst cores (n + 1) (all ++ lasts ∷ [])
   first-lasts cores n all operations lasts found first has = (
     omega (arith, first.0, length-append all (lasts ∷ [])),
-    first-more (λ core own. IsSomeAnd (slice_get (all ++ lasts ∷ []) core) (HasLasts own (length own))) (slice_get cores) operations found
+    first_more (λ core own. IsSomeAnd (slice_get (all ++ lasts ∷ []) core) (HasLasts own (length own))) (slice_get cores) operations found
         (λ core own l at. rw (before core (omega (arith, first.0))) (first.1 core own l at)) (rw (last n (omega (arith, first.0))) has),
   )
     where

@@ -1,6 +1,8 @@
 -- The cases that steps leave, step by step.
-use Rattle.std.specs.Prelude.{◌≡◌, ℕ, ◌+◌, ◌<◌, ◌≤◌, List, [], ◌∷◌, ◌++◌, Option, None, Some, MatchOption, length, take}
-use Rattle.std.proofs.Common.{rules, sym, ◌∙◌, ap, subst, arith, get_or}
+use Rattle.std.specs.Prelude.{◌≡◌, ℕ, ◌+◌, ◌<◌, List, [], ◌∷◌, ◌++◌, Option, MatchOption, length, take, nat_lt}
+use Rattle.std.specs.Bool.{then_some}
+use Rattle.std.proofs.Common.{rules, sym, ◌∙◌, ap, subst, arith, get_or, inl, inr}
+use Rattle.std.proofs.lemmas.Bool.{cases_lt, lt-ltb, le-ltb}
 use Rattle.std.proofs.lemmas.List.{take_more, drop_more, take_all, take-append-drop}
 use Rattle.mem_op.specs.Consistency.{Operation}
 use Rattle.refutation.specs.declared.step.Step.{Step}
@@ -15,10 +17,7 @@ use Rattle.refutation.specs.Refuting.{split, Leave, IsRefutation, IsStuck, IsFir
 pub leave-push : (cores : List (List Operation)) (cases : List (List Fact)) (steps : List Step) (facts : List Fact) (others : List (List Fact)) (step : Step) (given : List Fact)
     → Leave cores cases steps (facts ∷ others) → Gives cores facts step given → Leave cores cases (steps ++ step ∷ []) (split facts given ++ others)
 leave-push cores [] [] facts others step given none gives = absurd cc
-leave-push cores (first ∷ waiting) [] facts others step given same gives =
-    let a : first ≡ facts = cc in
-    let b : waiting ≡ others = cc in
-    (given, subst (λ (fs : List Fact). Gives cores fs step given) (sym a) gives, ap (λ (fs : List Fact). split fs given ++ waiting) a ∙ ap (λ (cs : List (List Fact)). split facts given ++ cs) b)
+leave-push cores (first ∷ waiting) [] facts others step given same gives = search rules
 leave-push cores [] (s ∷ steps) facts others step given wrong gives = absurd wrong
 leave-push cores (first ∷ waiting) (s ∷ steps) facts others step given leave gives =
     (leave.0, leave.1, leave-push cores (split first leave.0 ++ waiting) steps facts others step given leave.2 gives)
@@ -40,21 +39,22 @@ stuck-not : (cores : List (List Operation)) (left : List (List Fact)) (steps : L
 stuck-not cores left steps stuck leave = search rules
 
 -- what goes wrong somewhere is no refutation
-pub wrong-none : (cores : List (List Operation)) (steps : List Step) (place : ℕ) → IsFirstWrong cores steps place → IsRefutation cores steps → ⊥
-wrong-none cores steps place wrong is = search (rules, stuck-not, leave-rest, take-append-drop)
+pub wrong_none : (cores : List (List Operation)) (steps : List Step) (place : ℕ) → IsFirstWrong cores steps place → IsRefutation cores steps → ⊥
+wrong_none cores steps place wrong is = search (rules, stuck-not, leave-rest, take-append-drop)
 
 -- ---- where the steps are gone through one by one
 
 -- a step that is right
-pub right-next : (cores : List (List Operation)) (steps : List Step) (place : ℕ) (facts : List Fact) (others : List (List Fact)) (step : Step)
+pub right_next : (cores : List (List Operation)) (steps : List Step) (place : ℕ) (facts : List Fact) (others : List (List Fact)) (step : Step)
     → (given : List Fact) → place < length steps → step ≡ get_or steps place step → Leave cores ([] ∷ []) (take place steps) (facts ∷ others)
     → Gives cores facts step given → Leave cores ([] ∷ []) (take (place + 1) steps) (split facts given ++ others)
-right-next cores steps place facts others step given within is right gives =
+right_next cores steps place facts others step given within is right gives =
     rw (take_more steps place step within, ← is) (leave-push cores ([] ∷ []) (take place steps) facts others step given right gives)
 
 -- no case is left: the answer is the next step, if there is one
-pub answer-after : (cores : List (List Operation)) (steps : List Step) (next : ℕ) (answer : Option ℕ) → Leave cores ([] ∷ []) (take next steps) [] → MatchOption answer (length steps ≤ next) (λ place. (place ≡ next) × (next < length steps))
-    → MatchOption answer (IsRefutation cores steps) (λ place. IsFirstWrong cores steps place)
-answer-after cores steps next None right told = rw (take_all next steps told) at right
-answer-after cores steps next (Some place) right told =
-    rw told.0 record { within = (let l = told.1 in omega arith); left = []; right = right; stuck = rw (drop_more steps next (Cycle []) told.1) tt }
+pub answer-after : (cores : List (List Operation)) (steps : List Step) (next : ℕ) (answer : Option ℕ) → Leave cores ([] ∷ []) (take next steps) []
+    → answer ≡ then_some (nat_lt next (length steps)) next → MatchOption answer (IsRefutation cores steps) (λ place. IsFirstWrong cores steps place)
+answer-after cores steps next answer right told = elim (cases_lt next (length steps)) [
+  | inl l ↦ rw (told, lt-ltb next (length steps) l) record { within = omega arith; left = []; right = right; stuck = rw (drop_more steps next (Cycle []) l) tt }
+  | inr l ↦ rw (told, le-ltb next (length steps) l) (rw (take_all next steps l) at right)
+]

@@ -10,7 +10,7 @@ use Rattle.flat_replay.specs.Accesses.{address_of}
 use Rattle.refutation.specs.States.{next_id, word_of, put_word, fits, allows, next_of, words_of, IsIn, Waits, IsRightState}
 use Rattle.refutation.specs.declared.fact.Fact.{Fact}
 use Rattle.refutation.specs.declared.state.State.{State}
-use Rattle.refutation.proofs.Firsts.{First, first-more, first-skip}
+use Rattle.refutation.proofs.Firsts.{First, first_more, first-skip}
 
 module _ (cores : List (List Operation)) (numbers : List ℕ) (P : ℕ → Operation → Type 0) where
   -- the operation of a core at its number
@@ -60,7 +60,7 @@ module _ (cores : List (List Operation)) (facts : List Fact) (addresses : List �
       → ((fits (word_of addresses (words_of state) (address_of y)) y && list_all (allows (next_of state) id) facts) ≡ true
       → IsIn cores addresses InSet (slice_set (next_of state) id.core (id.index + 1)) (put_word addresses (words_of state) (address_of y) (word_left y)))
       → FirstOnes cores (next_of state) (LeadsInto InSet state) true (n + 1)
-  leads-more InSet state id y first is there leads = search (rules, first-more, and_from)
+  leads-more InSet state id y first is there leads = search (rules, first_more, and_from)
 
   -- a state is right in a larger set
   pub right-in-other : (One Other : List ℕ → List ℕ → Type 0) → ((next words : List ℕ) → One next words → Other next words) → (state : State)

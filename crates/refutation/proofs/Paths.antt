@@ -30,6 +30,6 @@ leads-up facts from (number ∷ path) to later leads up =
 -- ---- cycles
 
 -- the path in parts, as the code takes it
-pub is_cycle-exact : (facts : List Fact) (path : List ℕ) (fact : Fact) → 1 ≤ length path → slice_get facts (get_or path 0 0) ≡ Some fact
+pub is_cycle_exact : (facts : List Fact) (path : List ℕ) (fact : Fact) → 1 ≤ length path → slice_get facts (get_or path 0 0) ≡ Some fact
     → (Leads facts (later_of fact) (take (length path - 1) (drop 1 path)) (earlier_of fact) → IsCycle facts path) × (IsCycle facts path → Leads facts (later_of fact) (take (length path - 1) (drop 1 path)) (earlier_of fact))
-is_cycle-exact facts path fact some at = search (rules, take_all, up_to-refl, leads-up)
+is_cycle_exact facts path fact some at = search (rules, take_all, up_to-refl, leads-up)

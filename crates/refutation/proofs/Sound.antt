@@ -1,7 +1,7 @@
 -- What is a refutation refutes: in a consistent order all facts of some open case hold.
 use Rattle.std.specs.Prelude.{◌≡◌, ◌≢◌, ℕ, ◌+◌, ◌<◌, ◌≤◌, ◌⊎◌, true, List, [], ◌∷◌, ◌++◌, refl, Some, length, map, slice_get}
 use Rattle.std.specs.List.{list_any}
-use Rattle.std.proofs.Common.{sym, ap, subst, inl, inr, arith}
+use Rattle.std.proofs.Common.{rules, sym, ap, subst, inl, inr, arith}
 use Rattle.std.proofs.lemmas.Grind.{common_steps}
 use Rattle.std.proofs.lemmas.Option.{gets}
 use Rattle.std.proofs.lemmas.Bool.{and_parts, or_cases}
@@ -37,10 +37,7 @@ SomeCase cores time (facts ∷ cases) = AllHold cores time facts ⊎ SomeCase co
 
 -- one fact more
 all-push : (cores : List (List Operation)) (time : Point → ℕ) (facts : List Fact) (fact : Fact) → AllHold cores time facts → Holds cores time fact → AllHold cores time (facts ++ fact ∷ [])
-all-push cores time facts fact all holds number other at = elim (places facts number at) [
-  | inl before ↦ all number other before
-  | inr same ↦ subst (Holds cores time) same holds
-]
+all-push cores time facts fact all holds number other at = search (rules, places)
   where
     places : (xs : List Fact) (k : ℕ) → slice_get (xs ++ fact ∷ []) k ≡ Some other → (slice_get xs k ≡ Some other) ⊎ (fact ≡ other)
     places xs k e = grind (arith, common_steps, gets)
@@ -144,7 +141,7 @@ module _ (cores : List (List Operation)) (time : Point → ℕ) (timing : IsTimi
   left-one (facts ∷ others) (step ∷ steps) left (inr some) leave =
       left-one (split facts leave.0 ++ others) steps left (some-other cores time (split facts leave.0) others some) leave.2
 
-pub refutations-hold : RefutationsHold
-refutations-hold cores steps is consistent =
+pub refutations_hold : RefutationsHold
+refutations_hold cores steps is consistent =
     left-one cores (time_in consistent.0) (timing-in cores consistent.0 consistent.1)
     (λ facts all addresses states closed. no-closed cores consistent.0 consistent.1 addresses facts all states closed) ([] ∷ []) steps [] (inl (λ number fact at. absurd cc)) is

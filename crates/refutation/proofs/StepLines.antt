@@ -46,8 +46,8 @@ source_again : (bytes : List ℕ) (source : ℕ) (write : OpId) (path : List ℕ
 unfolding reason_text
 source_again bytes source write path low is = ap source_at is ∙ field_below_again (2 ^ 64) source (id_text write ++ (codes " :" ++ spaced numeral path)) low
 
-pub reason-no_source : (bytes : List ℕ) → source_at bytes ≡ None → TellsReason bytes None
-reason-no_source bytes none source write path low fits each is = none-some _ (sym none ∙ source_again bytes source write path low is)
+pub reason_no_source : (bytes : List ℕ) → source_at bytes ≡ None → TellsReason bytes None
+reason_no_source bytes none source write path low fits each is = none-some _ (sym none ∙ source_again bytes source write path low is)
 
 module _ (bytes rest : List ℕ) (found : ℕ) (e : source_at bytes ≡ Some (found, rest)) where
   -- what is named there
@@ -55,8 +55,8 @@ module _ (bytes rest : List ℕ) (found : ℕ) (e : source_at bytes ≡ Some (fo
   named_there source write path low fits is =
       ap named_at (some_pair_parts _ _ _ _ (sym e ∙ source_again bytes source write path low is)).1 ∙ named_again write (spaced numeral path) fits
 
-  pub reason-no_write : named_at rest ≡ None → TellsReason bytes None
-  reason-no_write none source write path low fits each is = none-some _ (sym none ∙ named_there source write path low fits is)
+  pub reason_no_write : named_at rest ≡ None → TellsReason bytes None
+  reason_no_write none source write path low fits each is = none-some _ (sym none ∙ named_there source write path low fits is)
 
   pub reason-told : (words : List ℕ) (write : OpId) (path : Option (List ℕ)) → TellsWords numeral (λ n. n < 2 ^ 64) words path → named_at rest ≡ Some (write, words)
       → TellsReason bytes (option_map (λ p. record { source = found; write = write; path = p }) path)

@@ -1,7 +1,6 @@
 -- Definitions that serve private contracts alone.
 pub mod Answers
 pub mod Covering
-pub mod Dead
 pub mod Lasts
 pub mod Lines
 pub mod Reading

@@ -4,7 +4,7 @@ ghost use Rattle.std.specs.Prelude.{◌≡◌, [], ◌∷◌, ◌++◌, ℕ, IfO
 ghost use Rattle.refutation.specs.Refuting.{split};
 ghost use Rattle.refutation.specs.inner.Waiting.{waiting_on};
 
-use super::fact::Known;
+use super::fact::Fact;
 use std::alloc::{AllocError, Global};
 use std::marker::Model;
 
@@ -12,23 +12,13 @@ use std::marker::Model;
 #[derive(Clone, Copy, Debug)]
 struct Waiting {
     kept: usize,
-    fact: Known,
-}
-
-impl Model for Waiting {
-    ghost use Rattle.refutation.specs.inner.Waiting.{WaitingParts};
-
-    ghost Value = { WaitingParts };
-
-    ghost view = { λ w. record { kept = w.kept; fact = w.fact } };
-
-    ghost inverse = { λ w. record { kept = w.kept; fact = w.fact } };
+    fact: Fact,
 }
 
 /// The open cases, at least one: the facts in force in the first, and the others, which wait.
 #[derive(Drop)]
 pub(crate) struct Cases {
-    facts: Vec<Known>,
+    facts: Vec<Fact>,
     waiting: Vec<Waiting>,
 }
 
@@ -47,7 +37,7 @@ impl Model for Cases {
 fn add_cases(
     waiting: &mut Vec<Waiting>,
     kept: usize,
-    mut given: Vec<Known>,
+    mut given: Vec<Fact>,
 ) -> Result<(), AllocError>
     ensures { OnOk result (reverse waiting.new.items ≡ map (waiting_on kept) given.items ++ reverse waiting.old.items) }
 {
@@ -69,14 +59,15 @@ impl Cases {
     }
 
     /// The facts in force in the first.
-    pub(crate) fn facts(&self) -> &[Known]
+    pub(crate) fn facts(&self) -> &[Fact]
         ensures { result.now ≡ self.now.facts }
     {
         &self.facts
     }
 
     /// The cases that are left when the first is split into one for each of these facts; None if none is left.
-    pub(crate) fn split(self, given: Vec<Known>) -> Result<Option<Cases>, AllocError>
+    #[tactic(auto, using(crate::proofs::Waitings::next_nested, crate::proofs::Waitings::next_cases))]
+    pub(crate) fn split(self, given: Vec<Fact>) -> Result<Option<Cases>, AllocError>
         ensures { IfOk result (λ left. let now = split self.facts given.items ++ self.others in
             MatchOption left (now ≡ []) (λ next. now ≡ next.facts ∷ next.others)) }
     {
@@ -89,7 +80,7 @@ impl Cases {
             return Ok(None);
         };
         facts.truncate(case.kept);
-        facts.push(case.fact)?;
+        facts.extend_from_slice(&[case.fact])?;
         Ok(Some(Cases { facts, waiting }))
     }
 }

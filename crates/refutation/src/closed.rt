@@ -1,13 +1,13 @@
 //! Whether a set of states is closed.
 
-ghost use Rattle.std.specs.Prelude.{◌≡◌, ◌↔◌, ◌+◌, ℕ, IsTrue, IfOk, MatchBool, replicate, slice_set, map};
+ghost use Rattle.std.specs.Prelude.{◌≡◌, ◌↔◌, ◌+◌, ℕ, IsTrue, IfOk, MatchBool, slice_set, map};
 ghost use Rattle.mem_op.specs.Consistency.{word_left};
 ghost use Rattle.flat_replay.specs.Accesses.{address_of};
 ghost use Rattle.refutation.specs.States.{put_word, next_of, words_of, LeadsBack, IsRightState, IsClosedSet};
 ghost use Rattle.refutation.specs.inner.Seen.{is_among_settled, IsAmong};
 
 use super::dead::is_dead;
-use super::fact::Known;
+use super::fact::Fact;
 use super::indexed::Indexed;
 use super::moves::{may_go, next_operation, put_word, settle, step};
 use super::seen::Seen;
@@ -60,7 +60,7 @@ fn leads_into(
 fn leads_back(
     alloc: Global,
     trace: &Trace,
-    facts: &[Known],
+    facts: &[Fact],
     addresses: &[Address],
     seen: &Seen,
     state: &State,
@@ -87,7 +87,7 @@ fn leads_back(
 fn is_right(
     alloc: Global,
     trace: &Indexed,
-    facts: &[Known],
+    facts: &[Fact],
     addresses: &[Address],
     seen: &Seen,
     state: &State,
@@ -112,13 +112,6 @@ fn is_right(
     }
 }
 
-/// This many zeros.
-fn zeros(alloc: Global, count: usize) -> Result<Vec<u64>, AllocError>
-    ensures { IfOk result (λ zeros. zeros.items ≡ replicate count 0) }
-{
-    vec![in alloc; 0; count]
-}
-
 /// Whether the first state is seen.
 fn has_first(
     alloc: Global,
@@ -128,8 +121,8 @@ fn has_first(
 ) -> Result<bool, AllocError>
     ensures { IfOk result (λ has. has ≡ is_among_settled trace.now addresses.now seen.now.keys (map (λ _. 0) trace.now) (map (λ _. 0) addresses.now)) }
 {
-    let next = zeros(alloc, trace.cores().len())?;
-    let words = zeros(alloc, addresses.len())?;
+    let next = vec![in alloc; 0; trace.cores().len()]?;
+    let words = vec![in alloc; 0; addresses.len()]?;
     is_in(alloc, trace, addresses, seen, &next, words)
 }
 
@@ -138,7 +131,7 @@ fn has_first(
 pub(crate) fn is_closed(
     alloc: Global,
     trace: &Trace,
-    facts: &[Known],
+    facts: &[Fact],
     addresses: &[Address],
     set: &StateSet,
 ) -> Result<bool, AllocError>

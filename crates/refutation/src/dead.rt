@@ -2,33 +2,16 @@
 
 ghost use Rattle.std.specs.Prelude.{◌≡◌, ◌≤◌, ◌<◌, MatchBool, length};
 ghost use Rattle.refutation.specs.States.{IsDead, NoneStores, Waits};
-ghost use Rattle.refutation.specs.inner.Dead.{NoneStoresOf};
-ghost use Rattle.refutation.specs.inner.Lasts.{AreUpTo};
+ghost use Rattle.refutation.specs.inner.Lasts.{AreUpTo, NoneStoresOf};
 
 use super::indexed::Indexed;
-use super::moves::{access_at, next_operation, number_of, word_of};
+use super::moves::{next_operation, number_of, word_of};
 use mem_op::Word;
 use trace::{Access, Address};
 
-/// Whether no operation of a core, from one index on and before another, stores a word to an address.
-fn none_stores_of(operations: &[Access], from: u64, to: u64, addr: Address, word: Word) -> bool
-    ensures { MatchBool result (NoneStoresOf operations.now from to addr word) (¬ NoneStoresOf operations.now from to addr word) }
-{
-    let mut index = from;
-    while index < to {
-        let Some(access) = access_at(operations, index) else {
-            return true;
-        };
-        if access.stores(addr, word) {
-            return false;
-        }
-        index += 1;
-    }
-    true
-}
-
-/// The same, if `last` is the index at which the operations store the word there last.
-fn none_stores_up_to(
+/// Whether no operation of a core, from one index on and before another, stores a word to an address. `last` is the index at
+/// which the core stores the word there last.
+fn none_stores_of(
     operations: &[Access],
     last: Option<u64>,
     from: u64,
@@ -39,20 +22,31 @@ fn none_stores_up_to(
     requires { AreUpTo operations.now (length operations.now) addr word last }
     ensures { MatchBool result (NoneStoresOf operations.now from to addr word) (¬ NoneStoresOf operations.now from to addr word) }
 {
-    match last {
-        Some(last) if from <= last => none_stores_of(operations, from, to, addr, word),
-        _ => true,
+    let Some(last) = last else {
+        return true;
+    };
+    let mut index = from;
+    while index < to && index <= last {
+        let Some(access) = operations.get(index as usize) else {
+            return true;
+        };
+        if access.stores(addr, word) {
+            return false;
+        }
+        index += 1;
     }
+    true
 }
 
 /// Whether no operation from these indices on and before the limits stores a word to an address.
+#[tactic(auto, using(crate::proofs::Firsts::core_at, crate::proofs::Firsts::first_more))]
 fn none_stores(trace: &Indexed, next: &[u64], limits: &[u64], addr: Address, word: Word) -> bool
     ensures { MatchBool result (NoneStores trace.now next.now limits.now addr word) (¬ NoneStores trace.now next.now limits.now addr word) }
 {
     for (core, operations) in trace.trace().cores().iter().enumerate() {
         let (from, to) = (number_of(next, core), number_of(limits, core));
         let last = trace.last(core, addr, word);
-        if !none_stores_up_to(operations, last, from, to, addr, word) {
+        if !none_stores_of(operations, last, from, to, addr, word) {
             return false;
         }
     }

@@ -5,7 +5,6 @@ ghost use Rattle.refutation.specs.Facts.{earlier_of, later_of};
 
 use super::step::{Point, Range};
 use mem_op::OpId;
-use std::marker::Model;
 
 /// What holds of an order in the present case.
 #[derive(Clone, Copy, Debug)]
@@ -16,42 +15,12 @@ pub(crate) enum Fact {
     Source(OpId, Range),
 }
 
-/// A fact that is in force.
-#[derive(Clone, Copy, Debug)]
-pub(crate) struct Known {
-    fact: Fact,
-}
-
-impl Model for Known {
-    ghost use Rattle.refutation.specs.declared.fact.Fact.{Fact};
-
-    ghost Value = { Fact };
-
-    ghost view = { λ k. k.fact };
-
-    ghost inverse = { λ fact. record { fact = fact } };
-}
-
-impl Known {
-    /// That this fact is in force.
-    pub(crate) fn new(fact: Fact) -> Known
-        ensures { result ≡ fact }
-    {
-        Known { fact }
-    }
-
-    /// The fact.
-    pub(crate) fn get(&self) -> Fact
-        ensures { result ≡ self.now }
-    {
-        self.fact
-    }
-
+impl Fact {
     /// The point that is before the other.
     pub(crate) fn earlier(&self) -> Point
         ensures { result ≡ earlier_of self.now }
     {
-        match self.fact {
+        match *self {
             Fact::Before(earlier, _) => earlier,
             Fact::Source(_, range) => range.first,
         }
@@ -61,7 +30,7 @@ impl Known {
     pub(crate) fn later(&self) -> Point
         ensures { result ≡ later_of self.now }
     {
-        match self.fact {
+        match *self {
             Fact::Before(_, later) => later,
             Fact::Source(read, _) => Point::At(read),
         }
@@ -69,7 +38,7 @@ impl Known {
 }
 
 /// The fact of a number.
-pub(crate) fn fact_at(facts: &[Known], number: usize) -> Option<Known>
+pub(crate) fn fact_at(facts: &[Fact], number: usize) -> Option<Fact>
     ensures { result ≡ slice_get facts.now number }
 {
     facts.get(number).copied()

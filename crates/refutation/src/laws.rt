@@ -4,6 +4,7 @@ ghost use Rattle.refutation.specs.Laws.{Complete, RefutationsHold};
 ghost use Rattle.refutation.specs.TextLaws.{AtMostOneFault, SpelledIsRead};
 
 /// A trace that has a refutation isn't consistent.
+#[tactic(auto, using(crate::proofs::Sound::refutations_hold))]
 pub fn refutations_hold()
     ensures { RefutationsHold }
 {}

@@ -14,6 +14,7 @@ use std::alloc::{AllocError, Global};
 use text_lines::read_spaced;
 
 /// The ranges that the bytes spell, each with a space before it; None if the bytes are something else.
+#[tactic(auto, using(crate::proofs::Parts::ranges_are_words, text_lines::proofs::SpacedWords::word_shorter))]
 fn read_ranges(alloc: Global, bytes: &[u8]) -> Result<Option<Ranges>, AllocError>
     ensures { IfOk result (TellsWords range_text RangeFits bytes.now) }
 {
@@ -31,6 +32,7 @@ fn read_ranges(alloc: Global, bytes: &[u8]) -> Result<Option<Ranges>, AllocError
 }
 
 /// The path whose numbers the bytes spell, each with a space before it; None if the bytes are something else.
+#[tactic(auto, using(text_lines::proofs::SpacedWords::numbers_are_words, text_lines::proofs::SpacedWords::word_shorter))]
 fn read_path(alloc: Global, bytes: &[u8]) -> Result<Option<Path>, AllocError>
     ensures { IfOk result (TellsWords numeral (λ number. number < 2 ^ 64) bytes.now) }
 {
@@ -56,6 +58,7 @@ struct Reason {
 }
 
 /// The number of a fact, the write and the path that the bytes spell; None if the bytes are something else.
+#[tactic(auto, using(crate::proofs::StepLines::reason_no_source, crate::proofs::StepLines::reason_no_write))]
 fn read_reason(alloc: Global, bytes: &[u8]) -> Result<Option<Reason>, AllocError>
     ensures { IfOk result (TellsReason bytes.now) }
 {
@@ -93,14 +96,11 @@ fn read_read(alloc: Global, fields: &[u8]) -> Result<Option<Step>, AllocError>
 fn read_from_read(alloc: Global, fields: &[u8]) -> Result<Option<Step>, AllocError>
     ensures { IfOk result (TellsStep (codes "from-read ") fields.now) }
 {
-    match read_reason(alloc, fields)? {
-        Some(reason) => Ok(Some(Step::FromRead {
-            source: reason.source,
-            write: reason.write,
-            path: reason.path,
-        })),
-        None => Ok(None),
-    }
+    Ok(read_reason(alloc, fields)?.map(|reason| Step::FromRead {
+        source: reason.source,
+        write: reason.write,
+        path: reason.path,
+    }))
 }
 
 /// The step of write-order that has these fields; None if there is no such step.
@@ -108,14 +108,11 @@ fn read_from_read(alloc: Global, fields: &[u8]) -> Result<Option<Step>, AllocErr
 fn read_write_order(alloc: Global, fields: &[u8]) -> Result<Option<Step>, AllocError>
     ensures { IfOk result (TellsStep (codes "write-order ") fields.now) }
 {
-    match read_reason(alloc, fields)? {
-        Some(reason) => Ok(Some(Step::WriteOrder {
-            source: reason.source,
-            write: reason.write,
-            path: reason.path,
-        })),
-        None => Ok(None),
-    }
+    Ok(read_reason(alloc, fields)?.map(|reason| Step::WriteOrder {
+        source: reason.source,
+        write: reason.write,
+        path: reason.path,
+    }))
 }
 
 /// The step that closes a case by a cycle and has these fields; None if there is no such step.
@@ -123,10 +120,7 @@ fn read_write_order(alloc: Global, fields: &[u8]) -> Result<Option<Step>, AllocE
 fn read_cycle(alloc: Global, fields: &[u8]) -> Result<Option<Step>, AllocError>
     ensures { IfOk result (TellsStep (codes "cycle :") fields.now) }
 {
-    match read_path(alloc, fields)? {
-        Some(path) => Ok(Some(Step::Cycle { path })),
-        None => Ok(None),
-    }
+    Ok(read_path(alloc, fields)?.map(|path| Step::Cycle { path }))
 }
 
 /// The step whose line this is, without its line feed; None if it isn't the line of a step.

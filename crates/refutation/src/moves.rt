@@ -6,7 +6,7 @@ ghost use Rattle.mem_op.specs.Consistency.{operation_at};
 ghost use Rattle.flat_replay.specs.Accesses.{address_of};
 ghost use Rattle.refutation.specs.States.{allows, fits, next_id, next_of, passes, put_word, settled, was_performed, word_of, words_of};
 
-use super::fact::Known;
+use super::fact::Fact;
 use super::reading::is_same;
 use super::state::State;
 use super::step::Point;
@@ -90,13 +90,6 @@ fn passes(word: Option<Word>, access: &Access) -> bool
     }
 }
 
-/// The operation of a core at an index.
-pub(crate) fn access_at(operations: &[Access], index: u64) -> Option<Access>
-    ensures { result ≡ slice_get operations.now index }
-{
-    operations.get(index as usize).copied()
-}
-
 /// The index of the first of a core's operations, from this one on, that doesn't pass.
 fn settled_index(operations: &[Access], from: u64, addresses: &[Address], words: &[Word]) -> u64
     ensures { result ≡ from + prefix_len (λ y. passes (word_of addresses.now words.now (address_of y)) y) (drop from operations.now) }
@@ -165,14 +158,14 @@ pub fn was_performed(next: &[u64], point: &Point) -> bool
 }
 
 /// Whether a fact is about another operation, or what it puts before this one was performed.
-fn allows(next: &[u64], id: &OpId, fact: &Known) -> bool
+fn allows(next: &[u64], id: &OpId, fact: &Fact) -> bool
     ensures { result ≡ allows next.now id.now fact.now }
 {
     !is_same(&fact.later(), &Point::At(*id)) || was_performed(next, &fact.earlier())
 }
 
 /// Whether each fact allows an operation.
-fn are_allowing(facts: &[Known], next: &[u64], id: &OpId) -> bool
+fn are_allowing(facts: &[Fact], next: &[u64], id: &OpId) -> bool
     ensures { result ≡ list_all (allows next.now id.now) facts.now }
 {
     facts.iter().all(|fact| allows(next, id, fact))
@@ -180,7 +173,7 @@ fn are_allowing(facts: &[Known], next: &[u64], id: &OpId) -> bool
 
 /// Whether a core may perform its next operation.
 pub(crate) fn may_go(
-    facts: &[Known],
+    facts: &[Fact],
     addresses: &[Address],
     state: &State,
     id: &OpId,

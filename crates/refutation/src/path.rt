@@ -3,7 +3,7 @@
 ghost use Rattle.std.specs.Prelude.{◌≡◌, ◌↔◌, IsTrue};
 ghost use Rattle.refutation.specs.Facts.{is_up_to, Leads, IsCycle};
 
-use super::fact::{Known, fact_at};
+use super::fact::{Fact, fact_at};
 use super::step::Point;
 
 /// Whether one point is another, or before it in program order. `init` is before everything.
@@ -18,7 +18,7 @@ pub fn is_up_to(one: &Point, other: &Point) -> bool
 }
 
 /// Whether program order and the facts of a path lead from one point to another.
-pub(crate) fn leads(facts: &[Known], from: &Point, path: &[usize], to: &Point) -> bool
+pub(crate) fn leads(facts: &[Fact], from: &Point, path: &[usize], to: &Point) -> bool
     ensures { IsTrue result ↔ Leads facts.now from.now path.now to.now }
 {
     let mut at = *from;
@@ -35,7 +35,8 @@ pub(crate) fn leads(facts: &[Known], from: &Point, path: &[usize], to: &Point) -
 }
 
 /// Whether the facts of a path lead from a point back to it, by one fact or more.
-pub(crate) fn is_cycle(facts: &[Known], path: &[usize]) -> bool
+#[tactic(auto, using(crate::proofs::Paths::is_cycle_exact))]
+pub(crate) fn is_cycle(facts: &[Fact], path: &[usize]) -> bool
     ensures { IsTrue result ↔ IsCycle facts.now path.now }
 {
     let [number, rest @ ..] = path else {

@@ -1,6 +1,6 @@
 //! The check of a refutation.
 
-ghost use Rattle.std.specs.Prelude.{◌≡◌, ◌<◌, ◌≤◌, ◌^◌, ◌↔◌, IsTrue, IfOk, IfSome, MatchOption};
+ghost use Rattle.std.specs.Prelude.{◌<◌, ◌^◌, ◌↔◌, IsTrue, IfOk, IfSome, MatchOption};
 ghost use Rattle.mem_op.specs.Consistency.{IsConsistent};
 ghost use Rattle.refutation.specs.Refuting.{IsRefutation, IsFirstWrong};
 
@@ -10,16 +10,10 @@ use super::step::Refutation;
 use std::alloc::{AllocError, Global};
 use trace::Trace;
 
-/// The first of `count` steps that comes after the last case was closed, if there is one.
-fn step_too_many(next: usize, count: usize) -> Option<usize>
-    ensures { MatchOption result (count ≤ next) (λ place. (place ≡ next) × (next < count)) }
-{
-    if next < count { Some(next) } else { None }
-}
-
 /// The place of the first step that isn't right or comes after the last case was closed; the number of steps if cases are
 /// left after the last step; None if the steps are a refutation of the trace. This doesn't trust whoever made them. Err if
 /// memory was refused.
+#[tactic(auto, using(crate::proofs::Leaving::right_next))]
 pub fn first_wrong_step(
     alloc: Global,
     trace: &Trace,
@@ -30,14 +24,15 @@ pub fn first_wrong_step(
         (λ place. IsFirstWrong trace.now refutation.now place)) }
     ensures in_range { IfOk result (λ wrong. IfSome wrong (λ place. place < 2 ^ 63)) }
 {
-    let steps = refutation.steps();
+    let steps = refutation.as_slice();
     let mut cases = Cases::new(alloc);
     for (place, step) in steps.iter().enumerate() {
         let Some(given) = given(alloc, trace, cases.facts(), step)? else {
             return Ok(Some(place));
         };
         let Some(left) = cases.split(given)? else {
-            return Ok(step_too_many(place + 1, steps.len()));
+            let next = place + 1;
+            return Ok((next < steps.len()).then_some(next));
         };
         cases = left;
     }
@@ -46,6 +41,7 @@ pub fn first_wrong_step(
 
 /// Whether the steps are a refutation of the trace. If they are, the trace isn't consistent. This doesn't trust whoever made
 /// the steps. Err if memory was refused.
+#[tactic(auto, using(crate::proofs::Leaving::wrong_none, crate::proofs::Sound::refutations_hold))]
 pub fn refutes(alloc: Global, trace: &Trace, refutation: &Refutation) -> Result<bool, AllocError>
     ensures exact { IfOk result (λ refuted. IsTrue refuted ↔ IsRefutation trace.now refutation.now) }
     ensures sound { IfOk result (λ refuted. IsTrue refuted → ¬ IsConsistent trace.now) }

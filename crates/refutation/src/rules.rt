@@ -1,14 +1,14 @@
 //! The rules: the cases that a step gives.
 
-ghost use Rattle.std.specs.Prelude.{◌≡◌, ◌↔◌, IsTrue, [], IfOk, map};
+ghost use Rattle.std.specs.Prelude.{◌≡◌, ◌↔◌, IsTrue, [], ◌∷◌, IfOk, IsSomeAnd, MatchOption, None, map};
 ghost use Rattle.refutation.specs.declared.fact.Fact.TheVariants.{Source};
 ghost use Rattle.refutation.specs.Rules.{Gives, HasItsSourceIn, IsOtherWrite, IsFromRead, IsWriteOrder};
 ghost use Rattle.refutation.specs.States.{IsClosedSet};
-ghost use Rattle.refutation.specs.inner.Answers.{TellsGiven, TellsOne, TellsReading, IsCaseOf};
+ghost use Rattle.refutation.specs.inner.Answers.{TellsGiven, TellsOne};
 
 use super::closed::is_closed;
-use super::covering::{Reading, cover};
-use super::fact::{Fact, Known, fact_at};
+use super::covering::cover;
+use super::fact::{Fact, fact_at};
 use super::path::{is_cycle, leads};
 use super::state::StateSet;
 use super::step::{Point, Range, Step};
@@ -16,26 +16,11 @@ use mem_op::OpId;
 use std::alloc::{AllocError, Global};
 use trace::{Address, Trace};
 
-/// The load or swap of an id.
-fn reading(trace: &Trace, id: &OpId) -> Option<Reading>
-    ensures { TellsReading trace.now id.now result }
-{
-    let access = trace.operation(id)?;
-    let value = access.read()?;
-    Some(Reading {
-        id: *id,
-        addr: access.addr(),
-        value,
-    })
-}
-
 /// That a read's source lies in a range, for each of these ranges.
-fn sources(alloc: Global, read: &OpId, ranges: &[Range]) -> Result<Vec<Known>, AllocError>
+fn sources(alloc: Global, read: &OpId, ranges: &[Range]) -> Result<Vec<Fact>, AllocError>
     ensures { IfOk result (λ facts. facts.items ≡ map (λ range. Source read.now range) ranges.now) }
 {
-    let facts = ranges
-        .iter()
-        .map(|range| Known::new(Fact::Source(*read, *range)));
+    let facts = ranges.iter().map(|range| Fact::Source(*read, *range));
     facts.collect(alloc)
 }
 
@@ -45,12 +30,17 @@ fn by_source(
     trace: &Trace,
     read: &OpId,
     ranges: &[Range],
-) -> Result<Option<Vec<Known>>, AllocError>
+) -> Result<Option<Vec<Fact>>, AllocError>
     ensures { IfOk result (TellsGiven (λ given.
         HasItsSourceIn trace.now read.now ranges.now × (given ≡ map (λ range. Source read.now range) ranges.now))) }
 {
-    match reading(trace, read) {
-        Some(found) if cover(trace, &found, ranges) => Ok(Some(sources(alloc, read, ranges)?)),
+    let Some(access) = trace.operation(read) else {
+        return Ok(None);
+    };
+    match access.read() {
+        Some(value) if cover(trace, read, access.addr(), value, ranges) => {
+            Ok(Some(sources(alloc, read, ranges)?))
+        }
         _ => Ok(None),
     }
 }
@@ -68,44 +58,44 @@ fn is_other_write(trace: &Trace, read: &OpId, last: &Point, write: &OpId) -> boo
 /// That a read is before a write, to which the path leads from the last point of the read's source.
 fn from_read(
     trace: &Trace,
-    facts: &[Known],
+    facts: &[Fact],
     source: usize,
     write: &OpId,
     path: &[usize],
-) -> Option<Known>
+) -> Option<Fact>
     ensures { TellsOne (IsFromRead trace.now facts.now source write.now path.now) result }
 {
-    let Fact::Source(read, range) = fact_at(facts, source)?.get() else {
+    let Fact::Source(read, range) = fact_at(facts, source)? else {
         return None;
     };
     let at = Point::At(*write);
     let is_right = is_other_write(trace, &read, &range.last, write)
         && leads(facts, &range.last, path, &at);
-    is_right.then_some(Known::new(Fact::Before(Point::At(read), at)))
+    is_right.then_some(Fact::Before(Point::At(read), at))
 }
 
 /// That a write, from which the path leads to a read, is before the last point of the read's source.
 fn write_order(
     trace: &Trace,
-    facts: &[Known],
+    facts: &[Fact],
     source: usize,
     write: &OpId,
     path: &[usize],
-) -> Option<Known>
+) -> Option<Fact>
     ensures { TellsOne (IsWriteOrder trace.now facts.now source write.now path.now) result }
 {
-    let Fact::Source(read, range) = fact_at(facts, source)?.get() else {
+    let Fact::Source(read, range) = fact_at(facts, source)? else {
         return None;
     };
     let at = Point::At(*write);
     let is_right = is_other_write(trace, &read, &range.last, write)
         && leads(facts, &at, path, &Point::At(read));
-    is_right.then_some(Known::new(Fact::Before(at, range.last)))
+    is_right.then_some(Fact::Before(at, range.last))
 }
 
 /// The one case of a fact that follows.
-fn one_case(alloc: Global, fact: Option<Known>) -> Result<Option<Vec<Known>>, AllocError>
-    ensures { IfOk result (λ facts. IsCaseOf fact facts) }
+fn one_case(alloc: Global, fact: Option<Fact>) -> Result<Option<Vec<Fact>>, AllocError>
+    ensures { IfOk result (λ facts. MatchOption fact (facts ≡ None) (λ f. IsSomeAnd facts (λ given. given.items ≡ f ∷ []))) }
 {
     let Some(fact) = fact else {
         return Ok(None);
@@ -117,10 +107,10 @@ fn one_case(alloc: Global, fact: Option<Known>) -> Result<Option<Vec<Known>>, Al
 fn by_states(
     alloc: Global,
     trace: &Trace,
-    facts: &[Known],
+    facts: &[Fact],
     addresses: &[Address],
     set: &StateSet,
-) -> Result<Option<Vec<Known>>, AllocError>
+) -> Result<Option<Vec<Fact>>, AllocError>
     ensures { IfOk result (TellsGiven (λ given. IsClosedSet trace.now facts.now addresses.now set.now × (given ≡ []))) }
 {
     Ok(is_closed(alloc, trace, facts, addresses, set)?.then_some(Vec::new(alloc)))
@@ -130,9 +120,9 @@ fn by_states(
 pub(crate) fn given(
     alloc: Global,
     trace: &Trace,
-    facts: &[Known],
+    facts: &[Fact],
     step: &Step,
-) -> Result<Option<Vec<Known>>, AllocError>
+) -> Result<Option<Vec<Fact>>, AllocError>
     ensures { IfOk result (TellsGiven (Gives trace.now facts.now step.now)) }
 {
     match step {

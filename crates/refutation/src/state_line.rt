@@ -12,6 +12,7 @@ use text_lines::{ends_word, read_spaced};
 
 /// The numbers after a sign, each with a space before it, and the bytes after them; None if the bytes don't begin with the
 /// sign, or a word goes on after the numbers.
+#[tactic(auto, using(text_lines::proofs::SpacedWords::numbers_are_words, text_lines::proofs::SpacedWords::word_shorter))]
 fn read_part<'a>(
     alloc: Global,
     sign: &[u8],

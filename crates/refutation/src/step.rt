@@ -1,10 +1,8 @@
 //! The steps of a refutation.
 
-ghost use Rattle.std.specs.Prelude.{◌≡◌};
-
+use super::items::Items;
 use super::state::{Numbers, StateSet};
 use mem_op::OpId;
-use std::marker::Model;
 
 /// A point of an order of operations.
 #[derive(Clone, Copy, Debug, PartialEq, Eq)]
@@ -25,65 +23,10 @@ pub struct Range {
 }
 
 /// Ranges, one of which holds the source of a read.
-#[derive(Debug, Drop)]
-pub struct Ranges {
-    ranges: Vec<Range>,
-}
-
-impl Model for Ranges {
-    ghost use Rattle.std.specs.Prelude.{List};
-    ghost use Rattle.refutation.specs.declared.step.Range.{Range};
-
-    ghost Value = { List Range };
-
-    ghost view = { λ r. r.ranges.items };
-}
-
-impl Ranges {
-    /// These ranges.
-    pub fn new(ranges: Vec<Range>) -> Ranges
-        ensures { result ≡ ranges.items }
-    {
-        Ranges { ranges }
-    }
-
-    /// Each of them.
-    pub fn as_slice(&self) -> &[Range]
-        ensures { result.now ≡ self.now }
-    {
-        &self.ranges
-    }
-}
+pub type Ranges = Items<Range>;
 
 /// A path: the numbers of facts, in the order in which they lead on.
-#[derive(Debug, Drop)]
-pub struct Path {
-    facts: Vec<usize>,
-}
-
-impl Model for Path {
-    ghost use Rattle.std.specs.Prelude.{List, ℕ};
-
-    ghost Value = { List ℕ };
-
-    ghost view = { λ p. p.facts.items };
-}
-
-impl Path {
-    /// The path of these facts.
-    pub fn new(facts: Vec<usize>) -> Path
-        ensures { result ≡ facts.items }
-    {
-        Path { facts }
-    }
-
-    /// Each number.
-    pub fn as_slice(&self) -> &[usize]
-        ensures { result.now ≡ self.now }
-    {
-        &self.facts
-    }
-}
+pub type Path = Items<usize>;
 
 /// A step of a refutation. It names a fact by its place, from 0, among those in force.
 #[derive(Debug, Drop)]
@@ -128,32 +71,4 @@ pub enum Step {
 }
 
 /// A list of steps meant to show that a trace isn't consistent.
-#[derive(Debug, Drop)]
-pub struct Refutation {
-    steps: Vec<Step>,
-}
-
-impl Model for Refutation {
-    ghost use Rattle.std.specs.Prelude.{List};
-    ghost use Rattle.refutation.specs.declared.step.Step.{Step};
-
-    ghost Value = { List Step };
-
-    ghost view = { λ r. r.steps.items };
-}
-
-impl Refutation {
-    /// The list of these steps.
-    pub fn new(steps: Vec<Step>) -> Refutation
-        ensures { result ≡ steps.items }
-    {
-        Refutation { steps }
-    }
-
-    /// Each step.
-    pub fn steps(&self) -> &[Step]
-        ensures { result.now ≡ self.now }
-    {
-        &self.steps
-    }
-}
+pub type Refutation = Items<Step>;

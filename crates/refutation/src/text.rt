@@ -102,6 +102,7 @@ impl Refutation {
 /// The first line of a text that isn't of a refutation's shape, or whose step isn't right or comes after the last case was
 /// closed, or the `end` line if cases are left. None if the text is that of a refutation of the trace. Err if memory was
 /// refused.
+#[tactic(auto, using(crate::proofs::Fronts::judged_right))]
 pub fn first_bad_line(alloc: Global, trace: &Trace, text: &[u8]) -> Result<Option<u64>, AllocError>
     ensures { IfOk result (λ bad. MatchOption bad
         (SpellsRefutation trace.now text.now)

@@ -6,7 +6,7 @@ use Rattle.std.proofs.lemmas.List.Elements.{All-head, All-tail}
 use Rattle.flat_replay.specs.Accesses.{own_operations}
 use Rattle.mem_op.specs.Consistency.{IsConsistent}
 use Rattle.mem_op.specs.Limits.{operation_limit}
-use Rattle.refutation.proofs.Sound.{refutations-hold}
+use Rattle.refutation.proofs.Sound.{refutations_hold}
 use Rattle.trace.specs.Growing.{IsOfSize}
 use Rattle.tardis_c.specs.Accesses.{IsAccess, operation_of, trace_of}
 use Rattle.tardis_c.specs.Faults.{AreOperations, IsFirstFault}
@@ -30,7 +30,7 @@ yes_is_consistent_of parts (Err (OutOfRange core index)) is none = absurd cc
 -- where it is 1, they aren't
 pub no_is_none : (parts : List (List TardisAccess)) (found : Result Finding OperationsFault) → IsFindingOf parts found → finding_status found ≡ 1 → IsConsistent (trace_of parts) → ⊥
 no_is_none parts (Ok (Order text)) is one = absurd cc
-no_is_none parts (Ok (Refutation text)) (all, (steps, is, text_is)) one = refutations-hold (trace_of parts) steps is
+no_is_none parts (Ok (Refutation text)) (all, (steps, is, text_is)) one = refutations_hold (trace_of parts) steps is
 no_is_none parts (Ok Undecided) is one = absurd cc
 no_is_none parts (Err OutOfMemory) is one = absurd cc
 no_is_none parts (Err (TooMany core)) is one = absurd cc

@@ -61,7 +61,7 @@ pub fn push_argument(
     ensures { OnOk result (IsGrown (string_bytes text.old) (string_bytes text.new)) }
 {
     let mut argument = String::new(alloc);
-    push_steps(&mut argument, alloc, names, trace, refutation.steps())?;
+    push_steps(&mut argument, alloc, names, trace, refutation.as_slice())?;
     let beginning = beginning_of(alloc, argument.as_str())?;
     text.push_str(beginning.as_str())
 }

@@ -113,7 +113,7 @@ fn push_open(told: &mut String, at: &RefusedLine<'_>) -> Written {
 
 /// Adds which question of its rule the last step fails; those before it are right.
 fn push_wrong_step(told: &mut String, alloc: Global, trace: &Trace, all: &Refutation) -> Written {
-    let [before @ .., last] = all.steps() else {
+    let [before @ .., last] = all.as_slice() else {
         return Ok(());
     };
     let mut cases = Walk::new(alloc);

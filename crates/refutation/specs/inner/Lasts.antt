@@ -1,7 +1,12 @@
--- Where a core stores words last.
-use Rattle.std.specs.Prelude.{◌≡◌, ℕ, ◌<◌, ◌≤◌, nat_eq, Bool, ◌&&◌, IsTrue, List, length, Option, Some, IsSomeAnd, slice_get}
+-- What the operations of one core store, and where they store words last.
+use Rattle.std.specs.Prelude.{◌≡◌, ◌≢◌, ℕ, ◌<◌, ◌≤◌, nat_eq, Bool, ◌&&◌, IsTrue, List, length, Option, Some, IsSomeAnd, slice_get}
 use Rattle.std.specs.HashMap.{HashMap, get}
 use Rattle.mem_op.specs.Consistency.{Operation, is_store_to, word_left}
+
+-- no operation from one index on and before another stores this word to this address
+abbrev pub NoneStoresOf : List Operation → ℕ → ℕ → ℕ → ℕ → Type 0
+NoneStoresOf operations from to addr word =
+    (index : ℕ) (z : Operation) → slice_get operations index ≡ Some z → from ≤ index → index < to → IsTrue (is_store_to addr z) → word_left z ≢ word
 
 -- each of the first operations that stores this word to this address is at this index or before it
 abbrev pub AreUpTo : List Operation → ℕ → ℕ → ℕ → Option ℕ → Type 0

@@ -3,7 +3,7 @@ use Rattle.std.proofs.lemmas.Option.{gets, slice_get_within}
 use Rattle.std.specs.Prelude.{slice_get}
 use Rattle.refutation.specs.States.{Has}
 use Rattle.refutation.specs.inner.Seen.{IsAmong}
-use Rattle.refutation.proofs.Firsts.{first-more}
+use Rattle.refutation.proofs.Firsts.{first_more}
 use Rattle.refutation.proofs.NextOnes.{right-in-other}
 use Rattle.refutation.proofs.closed.is_closed.Goals as goal
 
@@ -21,7 +21,7 @@ returns-then-not-branch-2 c = (
 pub loop-state-preserved : goal.loop-state-preserved
 loop-state-preserved c =
     let here : slice_get c.args.set.now c.loop-state.state-index ≡ Some c.state-item.result = grind (arith, gets) in
-    search (rules, first-more, right-in-other)
+    search (rules, first_more, right-in-other)
 
 pub returns : goal.returns
 returns c =

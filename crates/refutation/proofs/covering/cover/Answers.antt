@@ -1,6 +1,6 @@
 use Rattle.std.proofs.Common.{rules, arith, ◌∙◌}
 use Rattle.std.proofs.lemmas.Option.{slice_get_within}
-use Rattle.refutation.proofs.Firsts.{core_at, cores-all, all-cores, first-more}
+use Rattle.refutation.proofs.Firsts.{core_at, cores-all, all-cores}
 use Rattle.refutation.proofs.Settled.{at-core}
 use Rattle.refutation.proofs.covering.cover.Goals as goal
 
@@ -14,11 +14,6 @@ returns-then-not-cover_core c = λ covers.
     let found = core_at c.cores-operations-items.result.now c.loop-core.core c.cores-operations-items.ensures.value c.operations-item.is (omega arith) in
     c.if-not-cover_core.ensures (rw (c.at.ensures, c.deref.ensures.value) (λ index y below at.
     covers.writes (record { core = c.loop-core.core; index = index }) y (at-core c.args.trace.now c.loop-core.core index _ found ∙ at)))
-
-pub loop-core-preserved : goal.loop-core-preserved
-loop-core-preserved c =
-    let found = core_at c.cores-operations-items.result.now c.loop-core.core c.cores-operations-items.ensures.value c.operations-item.is (omega arith) in
-    search (rules, first-more)
 
 pub returns : goal.returns
 returns c =

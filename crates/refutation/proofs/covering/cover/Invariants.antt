@@ -8,6 +8,6 @@ use Rattle.refutation.proofs.covering.cover.Given as goal
 
 abbrev pub invariant-loop-core : goal.invariant-loop-core
 invariant-loop-core l = record {
-  init : l.read.value ≡ 0 → LiesIn l.ranges Init;
-  first : First (λ core ys. CoversFirst l.read.id l.read.addr l.read.value l.ranges core (length ys) ys) (slice_get l.trace) l.core;
+  init : l.value ≡ 0 → LiesIn l.ranges Init;
+  first : First (λ core ys. CoversFirst l.read l.addr l.value l.ranges core (length ys) ys) (slice_get l.trace) l.core;
 }

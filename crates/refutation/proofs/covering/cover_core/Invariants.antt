@@ -2,4 +2,4 @@ use Rattle.refutation.specs.inner.Covering.{CoversFirst}
 use Rattle.refutation.proofs.covering.cover_core.Given as goal
 
 abbrev pub invariant-loop-index : goal.invariant-loop-index
-invariant-loop-index l = CoversFirst l.read.id l.read.addr l.read.value l.ranges l.core l.index l.operations
+invariant-loop-index l = CoversFirst l.read l.addr l.value l.ranges l.core l.index l.operations

@@ -1,6 +1,6 @@
 -- Of the first cores no operation stores the word.
 use Rattle.std.specs.Prelude.{slice_get, slice_index}
-use Rattle.refutation.specs.inner.Dead.{NoneStoresOf}
+use Rattle.refutation.specs.inner.Lasts.{NoneStoresOf}
 use Rattle.refutation.proofs.Firsts.{First}
 use Rattle.refutation.proofs.dead.none_stores.Given as goal
 

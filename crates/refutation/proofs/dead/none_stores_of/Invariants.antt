@@ -1,5 +1,5 @@
 use Rattle.std.proofs.Common.{◌-◌, ◌≤◌}
-use Rattle.refutation.specs.inner.Dead.{NoneStoresOf}
+use Rattle.refutation.specs.inner.Lasts.{NoneStoresOf}
 use Rattle.refutation.proofs.dead.none_stores_of.Given as goal
 
 abbrev pub invariant-loop-index : goal.invariant-loop-index

@@ -1,9 +1,6 @@
 use Rattle.std.proofs.Common.{rules, ◌≢◌, [], sym}
 use Rattle.refutation.proofs.line.read_path.Goals as goal
-use Rattle.text_lines.proofs.SpacedWords.{all_words, numbers_are_words, one_more_word, word_shorter}
-
-pub loop-number-smaller : goal.loop-number-smaller
-loop-number-smaller c = search (rules, word_shorter numbers_are_words)
+use Rattle.text_lines.proofs.SpacedWords.{all_words, numbers_are_words, one_more_word}
 
 pub loop-number-preserved : goal.loop-number-preserved
 loop-number-preserved c =

@@ -1,10 +1,7 @@
 use Rattle.std.proofs.Common.{rules, ◌≢◌, [], sym}
 use Rattle.refutation.proofs.Parts.{ranges_are_words}
 use Rattle.refutation.proofs.line.read_ranges.Goals as goal
-use Rattle.text_lines.proofs.SpacedWords.{all_words, one_more_word, word_shorter}
-
-pub loop-found-smaller : goal.loop-found-smaller
-loop-found-smaller c = search (rules, word_shorter ranges_are_words)
+use Rattle.text_lines.proofs.SpacedWords.{all_words, one_more_word}
 
 pub loop-found-preserved : goal.loop-found-preserved
 loop-found-preserved c =

@@ -1,10 +1,7 @@
-use Rattle.std.proofs.Common.{rules, sym}
+use Rattle.std.proofs.Common.{sym}
 use Rattle.refutation.proofs.StateTexts.{part-goes-on}
 use Rattle.refutation.proofs.state_line.read_part.Goals as goal
-use Rattle.text_lines.proofs.SpacedWords.{numbers_are_words, one_more_word, word_shorter}
-
-pub loop-number-smaller : goal.loop-number-smaller
-loop-number-smaller c = search (rules, word_shorter numbers_are_words)
+use Rattle.text_lines.proofs.SpacedWords.{numbers_are_words, one_more_word}
 
 pub loop-number-preserved : goal.loop-number-preserved
 loop-number-preserved c = rw c.in_ok-push.ensures.items (one_more_word numbers_are_words _ _ _ _ _ c.loop-number.invariant (sym c.in-Some-read_spaced.ensures))
