@@ -3,4 +3,3 @@ pub mod Laws
 pub mod Numbers
 pub mod Sights
 pub mod TableText
-pub mod inner

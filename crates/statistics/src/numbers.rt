@@ -1,12 +1,11 @@
 //! The numbers of cores and slices.
 
-ghost use Rattle.std.specs.Prelude.{◌≡◌, ◌+◌, ◌∷◌, ◌++◌, ◌<◌, ◌≤◌, ◌^◌, ℕ, [], false, List, get_or, length, map};
+ghost use Rattle.std.specs.Prelude.{◌≡◌, ◌+◌, ◌∷◌, ◌++◌, ◌<◌, ◌≤◌, ◌^◌, ℕ, [], false, if◌then◌else◌, List, get_or, length, map};
 ghost use Rattle.manager_slice.specs.Limits.{entry_limit};
-ghost use Rattle.statistics.specs.Columns.{column_at, column_count, is_greatest, joined_in};
+ghost use Rattle.statistics.specs.Columns.{column_at, column_count, counts, is_greatest, joined_in};
 ghost use Rattle.statistics.specs.Numbers as numbers;
 ghost use Rattle.statistics.specs.Sights.{no_past, sights_after};
 ghost use Rattle.statistics.specs.declared.sight.Sight.{Sight};
-ghost use Rattle.statistics.specs.inner.Counting.{told};
 
 use super::column::{COLUMN_COUNT, Column, column_at};
 use super::run_counts::RunCounts;
@@ -138,10 +137,9 @@ fn count(counts: &mut [u64; COLUMN_COUNT], sight: &Sight)
 }
 
 /// How much the column at a place counts for a sight.
-#[tactic(auto, unfolding(crate::specs::inner::Counting::told))]
 fn told(place: usize, sight: &Sight) -> u64
     requires { place < COLUMN_COUNT }
-    ensures value { result ≡ told place sight.now }
+    ensures value { result ≡ (if counts (column_at place) sight.now then 1 else 0) }
     ensures small { result ≤ 1 }
 {
     u64::from(column_at(place).counts(sight))

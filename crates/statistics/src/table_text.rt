@@ -124,7 +124,7 @@ fn begin_table(alloc: Global) -> Result<Writer<Vec<u8>>, AllocError>
     Ok(writer)
 }
 
-/// Writes the lines of cores, core 0's first, and the totals over them.
+/// Writes the lines of cores, core 0's first. The totals over them.
 fn write_cores(
     alloc: Global,
     writer: &mut Writer<Vec<u8>>,
