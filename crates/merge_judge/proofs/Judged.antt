@@ -1,5 +1,5 @@
 -- What a merge answers that ends before its verdict.
-use Rattle.std.specs.Prelude.{◌≡◌, ℕ, List, [], ◌++◌, refl, Option, None, Result, Ok, Err, IfSome, map, take, ◌⊎◌, Bool, true, false, length}
+use Rattle.std.specs.Prelude.{◌≡◌, ℕ, List, [], ◌++◌, refl, Option, None, Result, Ok, Err, IfSome, map, take, ◌⊎◌, Bool, true, length}
 use Rattle.std.proofs.Common.{sym, ◌∙◌, ap, append-nil, inl, inr, subst}
 use Rattle.log_file.specs.declared.device_fault.WriteFault.{WriteFault}
 use Rattle.log_file.specs.declared.device_fault.WriteFault.TheVariants.{OutOfMemory as NoMemory, Write as WriteFailed}
@@ -84,10 +84,10 @@ pub look_fails : {S : Type 0} (remaining : S → Option (List ℕ)) (failed : S 
     → Appends old mid written → written ++ kept ≡ id_lines order → IsWritten mid new (kept ++ line_where on id) (Err f) kept_new → IsMergedBy remaining failed old new before after (Err (from_write f))
 look_fails remaining failed old mid new before after lanes numbers clean merged done written kept kept_new order on id f m steady shown appends lines w =
     let all : (written ++ w.0) ++ w.1.0 ≡ id_lines (order_where on order id) = joined written kept w.0 w.1.0 (line_where on id) (id_lines order) lines w.1.2 ∙ sym (lines_where on order id) in
-    let t = begun_texts m in
+    let t = begun_texts m.all in
     ends_early remaining failed old new before after (written ++ w.0) (appends_more old mid new written w.0 appends w.1.1) (lacks_end (written ++ w.0) w.1.0 (order_where on order id) all) t.0 t.1.0 f
     (inl (begins_order t.0 (Err (from_write f)) (order_where on order id) merged done lanes (written ++ w.0) w.1.0 shown t.1.1 all tt))
-    (quiet_write failed before after f (quiet_clean m steady))
+    (quiet_write failed before after f (quiet_clean m.all steady))
 
 -- ---- all logs have ended
 
@@ -137,12 +137,7 @@ module _ {S L : Type 0} {remaining : S → Option (List ℕ)} {failed : S → �
   -- a Yes: all records were merged without a fault, and their order is written
   module _ (n : ℕ) (f : IsFinalVerdict remaining failed before after lanes s.merged (Ok (Yes n))) (counted : n ≡ count) (sound : fault ≡ None) (still : clean ≡ true → merge.clean ≡ true) where
     steady : clean ≡ true
-    steady = go clean refl
-      where
-        go : (b : Bool) → clean ≡ b → clean ≡ true
-        go true e = e
-        go false e = absurd (let t = m.faulty e in let u = f.clean.2 t.0 t.1.0 t.1.1 in
-            elim t.1.2 [ inl h ↦ h u.0 | inr h ↦ h u.1 ])
+    steady = m.all.clean_is.1 f.clean.2
 
     order_is : s.order ≡ ids s.done
     order_is = s.all sound (still steady)
@@ -184,7 +179,7 @@ module _ {S L : Type 0} {remaining : S → Option (List ℕ)} {failed : S → �
         ends_early remaining failed old new before after (s.written ++ w.0) (appends_more old mid new s.written w.0 s.appends w.1.1)
         (lacks_more (s.written ++ w.0) w.1.0 s.order all w.1.4) f.texts f.tells x
         (inr (s.merged, (f.clean.0, (subst IsYes f.clean.1 tt, (length (s.written ++ w.0), sym (front_of (s.written ++ w.0) w.1.0 (order_text s.order) all) ∙ ap (λ ids. take (length (s.written ++ w.0)) (order_text ids)) by_key_is)))))
-        (quiet_write failed before after x (quiet_clean m steady))
+        (quiet_write failed before after x (quiet_clean m.all steady))
 
 -- after a bad count nothing was written
 pub nothing_after : (texts : List (List ℕ)) (f : JudgeFault) → IsBadCount f → StopsBefore texts (Err (Judge f)) []

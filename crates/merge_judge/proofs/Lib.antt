@@ -5,6 +5,7 @@ pub mod Falls
 pub mod Following
 pub mod LaneFacts
 pub mod Matches
+pub mod Places
 pub mod Merged
 pub mod WordFacts
 pub mod WritingFacts

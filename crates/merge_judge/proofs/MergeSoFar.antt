@@ -19,7 +19,7 @@ use Rattle.merge_judge.specs.inner.Merging.{HasMerged}
 use Rattle.merge_judge.specs.LaneParts.{LaneParts}
 use Rattle.merge_judge.specs.inner.Memory.{Holds, IsMemory, first_along}
 use Rattle.merge_judge.proofs.Added.{entries_few}
-use Rattle.merge_judge.proofs.Merged.{there}
+use Rattle.merge_judge.proofs.Places.{there}
 use Rattle.merge_judge.proofs.Shown.{IsShown, ids, order_where}
 use Rattle.merge_judge.proofs.WritingFacts.{end_line_some}
 
@@ -43,12 +43,8 @@ pub record MergeSoFar {S L : Type 0} (remaining : S → Option (List ℕ)) (fail
 
 pub few_done : {S : Type 0} {remaining : S → Option (List ℕ)} {failed : S → ℕ} {before after : List S} {lanes : List LaneParts} {numbers : List ℕ} {clean : Bool} {merged : List (List Record)} {done : List Entry} → IsMerged remaining failed before after lanes numbers clean merged done → length done ≤ 67108864
 few_done {S} {remaining} {failed} {before} {after} {lanes} {numbers} {clean} {merged} {done} m =
-    let few = entries_few 0 1048576 merged (λ k w.
-    let b = there before k (omega (arith, w, m.logs)) in
-    let a = there after k (omega (arith, w, m.logs, m.readers)) in
-    let l = there lanes k (omega (arith, w, m.logs, m.many)) in
-    (m.lane k b.0 a.0 l.0 b.1 a.1 l.1).few) in
-    omega (arith, few, m.total, m.logs, m.few)
+    let few = entries_few 0 1048576 merged (λ k w. let l = there lanes k (omega (arith, w, m.all.logs, m.all.many)) in (m.all.lane k l.0 l.1).at.few) in
+    omega (arith, few, m.total, m.all.logs, m.all.few)
 
 -- ---- what lacks the end line
 
