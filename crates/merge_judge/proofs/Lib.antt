@@ -12,7 +12,6 @@ pub mod WritingFacts
 pub mod Opening
 pub mod FinalVerdict
 pub mod Shown
-pub mod MergeSoFar
 pub mod Quiet
 pub mod Texts
 pub mod Stopped

@@ -37,7 +37,7 @@ use Rattle.log_file.specs.Log.{Spells}
 use Rattle.merge_judge.proofs.Along.{after_is_fault}
 use Rattle.merge_judge.proofs.Begins.{begins_front}
 use Rattle.merge_judge.proofs.Falls.{fall_left}
-use Rattle.merge_judge.proofs.MergeSoFar.{front_of}
+use Rattle.merge_judge.proofs.WritingFacts.{front_of}
 use Rattle.merge_judge.proofs.Opening.{no_entries, none_there}
 use Rattle.merge_judge.proofs.Places.{there}
 use Rattle.merge_judge.proofs.Shown.{IsShown, none_yes, yes_where}
