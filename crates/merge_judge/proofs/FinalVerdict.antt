@@ -16,7 +16,7 @@ use Rattle.core_check.specs.CoreOrder.{is_core_fault}
 use Rattle.core_check.specs.CoreFaults.{least_core_fault, order_fault, order_faults}
 use Rattle.core_check.specs.FaultOrder.{core_fault_cmp}
 use Rattle.mem_op.specs.Limits.{operation_limit}
-use Rattle.merge_judge.proofs.Places.{one, there}
+use Rattle.merge_judge.proofs.Places.{each_by, there}
 use Rattle.core_check.specs.declared.fault.RuleFault.{RuleFault}
 use Rattle.core_check.proofs.FaultFacts.{core_fault_total, tied_core_faults}
 use Rattle.core_check.proofs.OrderFaultFacts.{FaultIn, fault_in_log, fault_of_log, record_at_fault}
@@ -146,18 +146,11 @@ module _ {S : Type 0} {remaining : S → Option (List ℕ)} {failed : S → ℕ}
       let few = (m.all.lane core l hl).at.few in
       (omega (arith, slice_get_within lanes core l hl, m.all.few, m.all.many), omega (arith, slice_get_within (log_at merged core) index r.0 r.1, few))
 
-  pub reader_failed : (file : ℕ) (l : LaneParts) → slice_get lanes file ≡ Some l → l.fault ≡ Some Read → ReaderFailed failed before after file
-  reader_failed file l hl some = let p = m.all.lane file l hl in (p.first, (p.now, p.is_first, p.is_now, p.at.read some))
-
   -- none failed before the file that is told, and its own reader only where that is told
   quiet_at : (file : ℕ) (fault : LogFault) (l : LaneParts) → slice_get lanes file ≡ Some l → l.fault ≡ Some fault → NoneFaulty lanes file → IsQuietUpTo failed before after (Some (Err (from_set file fault)))
-  quiet_at file (At line f) l hl some none = quiet_to m.all (file + 1) (λ k x less hx read. elim (cases_lt k file) [
-    | inl earlier ↦ (let sound = none k x earlier hx in cc)
-    | inr here ↦ (let same : k ≡ file = omega (arith, less, here) in
-        let is : l ≡ x = one (slice_get lanes file) l x hl (subst (λ n. slice_get lanes n ≡ Some x) same hx) in
-        let found : x.fault ≡ Some (At line f) = ap (λ (y : LaneParts). y.fault) (sym is) ∙ some in
-        cc)
-  ])
+  quiet_at file (At line f) l hl some none =
+      let sound = each_by (λ k x. k < file + 1 → x.fault ≡ Some Read → ⊥) lanes file l hl (λ less read. cc) (λ k x other hx less read. (let whole = none k x (omega arith) hx in cc)) in
+      quiet_to m.all (file + 1) (λ k x less hx. sound k x hx less)
   quiet_at file OutOfMemory l hl some none = tt
   quiet_at file Read l hl some none = quiet_to m.all file (λ k x less hx read. (let sound = none k x less hx in cc))
 
@@ -165,10 +158,10 @@ module _ {S : Type 0} {remaining : S → Option (List ℕ)} {failed : S → ℕ}
   quiet_whole : NoneFaulty lanes (length lanes) → NoneFailed failed before after
   quiet_whole whole = quiet_all m.all (λ k l hl read. (let sound = whole k l (slice_get_within lanes k l hl) hl in cc))
 
-  only_read : (file other : ℕ) (fault : LogFault) → from_set file fault ≡ ReadFile other → (fault ≡ Read) × (file ≡ other)
-  only_read file other (At line f) h = absurd cc
-  only_read file other OutOfMemory h = absurd cc
-  only_read file other Read h = (refl, (let e : file ≡ other = cc in e))
+  read_failed : (file other : ℕ) (fault : LogFault) (l : LaneParts) → slice_get lanes file ≡ Some l → l.fault ≡ Some fault → from_set file fault ≡ ReadFile other → ReaderFailed failed before after other
+  read_failed file other (At line f) l hl some h = absurd cc
+  read_failed file other OutOfMemory l hl some h = absurd cc
+  read_failed file other Read l hl some h = let p = m.all.lane file l hl in let same : other ≡ file = cc in rw same (p.first, (p.now, p.is_first, p.is_now, p.at.read some))
 
   pub final_fault : (file : ℕ) (fault : LogFault) (l : LaneParts) → slice_get lanes file ≡ Some l → l.fault ≡ Some fault → NoneFaulty lanes file → IsFinalVerdict remaining failed before after lanes merged (Err (from_set file fault))
   final_fault file fault l hl some none = record {
@@ -177,8 +170,7 @@ module _ {S : Type 0} {remaining : S → Option (List ℕ)} {failed : S → ℕ}
     begun = begun;
     answers = set_fault file fault l hl some none;
     clean = tt;
-    failed_at = λ other h. (let t = only_read file other fault h in
-        subst (λ k. ReaderFailed failed before after k) t.1 (reader_failed file l hl (some ∙ ap (λ f. Some f) t.0)));
+    failed_at = λ other h. read_failed file other fault l hl some h;
     quiet = quiet_at file fault l hl some none;
   }
 

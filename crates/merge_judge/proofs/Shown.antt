@@ -123,16 +123,10 @@ module _ (order : List OpId) (merged : List (List Record)) (done : List Entry) (
   ))
   at_core lane (inr (inr none)) = inr (inr none)
 
-  elsewhere : (k : ℕ) (lane : LaneParts) → (k ≡ e.id.core → ⊥) → EndsHere h.logs merged k lane ⊎ (GoesOn h.logs merged k lane ⊎ (entries h.logs ≡ []))
-      → EndsHere h.logs merged_new k lane ⊎ (GoesOn h.logs merged_new k lane ⊎ (entries h.logs ≡ []))
-  elsewhere k lane other (inl ends) = inl (ends.0, ends.1, ends.2 ∙ sym (add_other merged e.id.core k e.logged other))
-  elsewhere k lane other (inr (inl (r, (rest, is, after)))) = inr (inl (r, (rest, is ∙ ap (λ rs. rs ++ front_list lane.front) (sym (add_other merged e.id.core k e.logged other)), after)))
-  elsewhere k lane other (inr (inr none)) = inr (inr none)
-
   next_still : (k : ℕ) (lane : LaneParts) → slice_get new k ≡ Some lane → EndsHere h.logs merged_new k lane ⊎ (GoesOn h.logs merged_new k lane ⊎ (entries h.logs ≡ []))
   next_still k lane hl = elim (cases_eq k e.id.core) [
-    | inl q ↦ subst (λ j. EndsHere h.logs merged_new j lane ⊎ (GoesOn h.logs merged_new j lane ⊎ (entries h.logs ≡ []))) (sym q) (at_core lane (h.next e.id.core taken.front.0 taken.front.1))
-    | inr q ↦ elsewhere k lane q (h.next k lane (sym (taken.others k q) ∙ hl))
+    | inl q ↦ rw q (at_core lane (h.next e.id.core taken.front.0 taken.front.1))
+    | inr q ↦ rw (add_other merged e.id.core k e.logged q) (h.next k lane (sym (taken.others k q) ∙ hl))
   ]
 
   shown_still : IsShown order merged_new (done ++ e ∷ []) new
