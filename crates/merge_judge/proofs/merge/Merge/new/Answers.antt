@@ -8,12 +8,6 @@ use Rattle.merge_judge.proofs.Merged.{both_true}
 use Rattle.merge_judge.proofs.Opening.{all_opened, opened_more, opened_none}
 use Rattle.merge_judge.proofs.merge.Merge.new.Goals as goal
 
-pub loop-core-init : goal.loop-core-init
-loop-core-init g c = record {
-  opened = rw (c.new-lanes.ensures.items, c.new-numbers.ensures.items) (opened_none g.S.RecordSource.remaining g.S.RecordSource.failed c.args.readers.now c.requires.few);
-  cores = refl;
-}
-
 pub loop-core-preserved : goal.loop-core-preserved
 loop-core-preserved g c =
     let loop = c.loop-core in
