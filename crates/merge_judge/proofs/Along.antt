@@ -1,5 +1,6 @@
 -- The first fault along the order of keys is the least.
-use Rattle.std.specs.Prelude.{◌≡◌, Bool, true, false, List, [], ◌∷◌, ◌++◌, refl, Option, Some, None, length, slice_get, take}
+use Rattle.std.specs.Prelude.{◌≡◌, Bool, true, false, List, [], ◌∷◌, ◌++◌, refl, Option, Some, None, filter_map, length, slice_get, take}
+use Rattle.std.specs.List.{cons_option}
 use Rattle.std.specs.Option.{option_or}
 use Rattle.std.proofs.Common.{sym, ◌∙◌, ap, subst, inl, inr, arith, append_assoc, append-nil, length-append}
 use Rattle.std.specs.Ordering.{is_lt}
@@ -9,7 +10,7 @@ use Rattle.std.proofs.lemmas.Option.{slice_get-get_or}
 use Rattle.line_stamps.specs.KeyOrder.{key_cmp}
 use Rattle.line_stamps.specs.Ordered.{In, Ascends, IsGreatest, IsLeastIn}
 use Rattle.line_stamps.proofs.Order.{lt_irrefl, lt_asym, lt_cases}
-use Rattle.line_stamps.proofs.Ordered.{Ascends-take, In-append, In-append_left, In-append_right, In-from_sorted, before_from_take, take_from_before, last_is_greatest, greatest_from_least, In-filter_map, filter_map-In, least_is, one_least}
+use Rattle.line_stamps.proofs.Ordered.{Ascends-take, In-append_left, In-from_sorted, before_from_take, take_from_before, last_is_greatest, greatest_from_least, In-filter_map, filter_map-In, least_is, one_least}
 use Rattle.log_record.specs.declared.record.Record.{Record}
 use Rattle.log_record.specs.declared.record.Entry.{Entry}
 use Rattle.log_record.specs.Entries.{key_of, entry_cmp, entries}
@@ -58,13 +59,6 @@ one_greatest logs p None (Some b) g h = let f = g b h.0 in let k = h.1 in cc
 one_greatest logs p (Some a) None g h = let f = h a g.0 in let k = g.1 in cc
 one_greatest logs p (Some a) (Some b) g h = ap (λ e. Some e) (untied logs a b g.0 h.0 (g.2 b h.0 h.1) (h.2 a g.0 g.1))
 
-after_each : (xs : List Entry) (e : Entry) (ys : List Entry) → Ascends entry_cmp (xs ++ e ∷ ys) → (y : Entry) → In y ys → is_lt (entry_cmp e y) ≡ true
-after_each [] e ys h y p = h.0 y p
-after_each (z ∷ xs) e ys h y p = after_each xs e ys h.1 y p
-
-abbrev Clean : List (List Record) → List Entry → Type 0
-Clean logs xs = (x : Entry) → In x xs → address_fault (entries logs) x ≡ None
-
 module _ (logs : List (List Record)) (xs : List Entry) (e : Entry) (ys : List Entry) (is : by_key logs ≡ xs ++ e ∷ ys) where
   up : Ascends entry_cmp (xs ++ e ∷ ys)
   up = subst (λ es. Ascends entry_cmp es) is (by_key-ascends logs)
@@ -104,49 +98,49 @@ module _ (logs : List (List Record)) (xs : List Entry) (e : Entry) (ys : List En
       (last_is_right last (last_is_greatest entry_cmp entry_total (stores_to e.logged.addr) xs (subst (λ es. Ascends entry_cmp es) front (Ascends-take entry_cmp entry_total (length xs) (xs ++ e ∷ ys) up))))
       (greatest_from_least entry_cmp entry_total (is_earlier_store e) (entries logs)))
 
-  -- the first of them that has a fault has the least
-  first_is_least : (f : AddressFault) → Clean logs xs → address_fault (entries logs) e ≡ Some f → Some f ≡ least_address_fault (entries logs)
-  first_is_least f clean q =
-      one_least fault_cmp fault_total (address_faults (entries logs)) (address_faults (entries logs)) (Some f) (least_address_fault (entries logs)) (λ x y p r t. tied_faults x y t) (λ x p. p) (λ x p. p)
-      (In-filter_map (address_fault (entries logs)) (entries logs) e f (in_set e (In-append_right e xs (e ∷ ys) (inl refl))) q, λ x p. above x (filter_map-In (address_fault (entries logs)) (entries logs) x p))
-      (least_is fault_cmp fault_total (address_faults (entries logs)))
+-- ---- the first fault and the least
+
+abbrev first : List AddressFault → Option AddressFault
+first [] = None
+first (f ∷ fs) = Some f
+
+module _ (logs : List (List Record)) where
+  abbrev fault : Entry → Option AddressFault
+  fault = address_fault (entries logs)
+
+  -- the first fault along the order of keys
+  along : (xs ys : List Entry) → by_key logs ≡ xs ++ ys → first_along xs ys ≡ first (filter_map fault ys)
+  along xs [] is = refl
+  along xs (e ∷ ys) is = rw (after_is_fault logs xs e ys is, along (xs ++ e ∷ []) ys (is ∙ sym (append_assoc xs (e ∷ []) ys))) (go (fault e))
     where
-      above : (x : AddressFault) → (y : Entry) × In y (entries logs) × (address_fault (entries logs) y ≡ Some x) → is_lt (fault_cmp x f) ≡ false
-      above x t = elim (In-append t.0 xs (e ∷ ys) (subst (λ es. In t.0 es) is (In-from_sorted entry_cmp t.0 (entries logs) t.1))) [
-        | inl p ↦ (let n : address_fault (entries logs) t.0 ≡ None = clean t.0 p in let m : address_fault (entries logs) t.0 ≡ Some x = t.2 in cc)
-        | inr p ↦ elim p [
-          | inl r ↦ (let m : Some f ≡ Some x = sym q ∙ ap (address_fault (entries logs)) r ∙ t.2 in let w : f ≡ x = cc in subst (λ z. is_lt (fault_cmp z f) ≡ false) w (lt_irrefl fault_cmp fault_total f))
-          | inr r ↦ (let a : is_lt (entry_cmp e t.0) ≡ true = after_each xs e ys up t.0 r in
+      go : (o : Option AddressFault) → option_or o (first (filter_map fault ys)) ≡ first (cons_option o (filter_map fault ys))
+      go None = refl
+      go (Some f) = refl
+
+  -- no fault of a later entry is less
+  first_is_least : (es : List Entry) → Ascends entry_cmp es → IsLeastIn fault_cmp (filter_map fault es) (first (filter_map fault es))
+  first_is_least [] ascends = λ x p. p
+  first_is_least (e ∷ es) ascends = go (fault e) refl (first_is_least es ascends.1)
+    where
+      go : (o : Option AddressFault) → fault e ≡ o → IsLeastIn fault_cmp (filter_map fault es) (first (filter_map fault es)) → IsLeastIn fault_cmp (cons_option o (filter_map fault es)) (first (cons_option o (filter_map fault es)))
+      go None q later = later
+      go (Some f) q later = (
+        inl refl,
+        λ x p. elim p [
+          | inl same ↦ subst (λ z. is_lt (fault_cmp z f) ≡ false) same (lt_irrefl fault_cmp fault_total f)
+          | inr r ↦ (let t = filter_map-In fault es x r in
+              let a : is_lt (entry_cmp e t.0) ≡ true = ascends.0 t.0 t.1 in
               let b : key_of e ≡ f.key = sym (key_of_fault e.logged.act e (right_store (entries logs) e) f q) in
               let c : key_of t.0 ≡ x.key = sym (key_of_fault t.0.logged.act t.0 (right_store (entries logs) t.0) x t.2) in
               let d : is_lt (key_cmp f.key x.key) ≡ true = subst (λ z. is_lt (key_cmp f.key z) ≡ true) c (subst (λ z. is_lt (key_cmp z (key_of t.0)) ≡ true) b a) in
               lt_asym fault_cmp fault_total f x (less_by_key f x d))
-        ]
-      ]
+        ],
+      )
 
-none_at_end : (logs : List (List Record)) → Clean logs (by_key logs) → None ≡ least_address_fault (entries logs)
-none_at_end logs clean = go (least_address_fault (entries logs)) (least_is fault_cmp fault_total (address_faults (entries logs)))
-  where
-    go : (r : Option AddressFault) → IsLeastIn fault_cmp (address_faults (entries logs)) r → None ≡ r
-    go None n = refl
-    go (Some f) n =
-        let t = filter_map-In (address_fault (entries logs)) (entries logs) f n.0 in
-        let m : address_fault (entries logs) t.0 ≡ None = clean t.0 (In-from_sorted entry_cmp t.0 (entries logs) t.1) in
-        let w : address_fault (entries logs) t.0 ≡ Some f = t.2 in
-        cc
-
--- the first fault along the order of keys
-along : (logs : List (List Record)) (xs ys : List Entry) → by_key logs ≡ xs ++ ys → Clean logs xs → first_along xs ys ≡ least_address_fault (entries logs)
-along logs xs [] is clean = none_at_end logs (λ x p. clean x (subst (λ es. In x es) (is ∙ append-nil xs) p))
-along logs xs (e ∷ ys) is clean =
-    go (fault_after xs e) (after_is_fault logs xs e ys is) (along logs (xs ++ e ∷ []) ys (is ∙ sym (append_assoc xs (e ∷ []) ys)))
-  where
-    more : address_fault (entries logs) e ≡ None → (x : Entry) → In x (xs ++ e ∷ []) → address_fault (entries logs) x ≡ None
-    more none x p = elim (In-append x xs (e ∷ []) p) [ inl q ↦ clean x q | inr q ↦ elim q [ inl same ↦ subst (λ w. address_fault (entries logs) w ≡ None) same none | inr none_left ↦ absurd none_left ] ]
-
-    go : (o : Option AddressFault) → o ≡ address_fault (entries logs) e → (Clean logs (xs ++ e ∷ []) → first_along (xs ++ e ∷ []) ys ≡ least_address_fault (entries logs)) → option_or o (first_along (xs ++ e ∷ []) ys) ≡ least_address_fault (entries logs)
-    go None q ih = ih (more (sym q))
-    go (Some f) q ih = first_is_least logs xs e ys is f clean (sym q)
-
-pub along_is_least : (logs : List (List Record)) → first_along [] (by_key logs) ≡ least_address_fault (entries logs)
-along_is_least logs = along logs [] (by_key logs) refl (λ x p. absurd p)
+  pub along_is_least : first_along [] (by_key logs) ≡ least_address_fault (entries logs)
+  along_is_least =
+      along [] (by_key logs) refl
+      ∙ one_least fault_cmp fault_total (filter_map fault (by_key logs)) (address_faults (entries logs)) (first (filter_map fault (by_key logs))) (least_address_fault (entries logs)) (λ x y p r t. tied_faults x y t)
+      (λ x p. let t = filter_map-In fault (by_key logs) x p in In-filter_map fault (entries logs) t.0 x (in_set_by_key logs t.0 t.1) t.2)
+      (λ x p. let t = filter_map-In fault (entries logs) x p in In-filter_map fault (by_key logs) t.0 x (In-from_sorted entry_cmp t.0 (entries logs) t.1) t.2)
+      (first_is_least (by_key logs) (by_key-ascends logs)) (least_is fault_cmp fault_total (address_faults (entries logs)))

@@ -8,15 +8,7 @@ use Rattle.core_program.specs.Least.{IsLeastWhere}
 use Rattle.core_check.specs.CoreOrder.{falls, is_core_fault}
 use Rattle.core_check.proofs.OrderFaultFacts.{nothing_falls_to_none}
 use Rattle.merge_judge.specs.inner.Lanes.{first_to_fall, front_list}
-
-pub get_left : {X : Type 0} (xs ys : List X) (i : ℕ) → i < length xs → slice_get (xs ++ ys) i ≡ slice_get xs i
-get_left [] ys i l = absurd (omega arith)
-get_left (x ∷ xs) ys zero l = refl
-get_left (x ∷ xs) ys (suc i) l = get_left xs ys i (omega arith)
-
-pub get_last : {X : Type 0} (xs : List X) (x : X) → slice_get (xs ++ x ∷ []) (length xs) ≡ Some x
-get_last [] x = refl
-get_last (y ∷ ys) x = get_last ys x
+use Rattle.merge_judge.proofs.Places.{get_last, get_left}
 
 -- before what comes behind nothing changes
 pub fall_left : (xs ys : List Record) (i : ℕ) → i < length xs → is_core_fault (xs ++ ys) i ≡ is_core_fault xs i

@@ -1,6 +1,5 @@
 -- A log followed record by record.
-use Rattle.std.proofs.Common.{◌≡◌, ℕ, ◌+◌, ◌-◌, ◌<◌, ◌≤◌, ◌^◌, List, [], ◌∷◌, ◌++◌, length, take, drop, Option, None, Some, Result, Ok, Err, sym, ap, subst, ◌∙◌, arith, append_assoc, append-nil, length-append}
-use Rattle.std.specs.Prelude.{is_some, true, false}
+use Rattle.std.proofs.Common.{◌≡◌, ℕ, ◌+◌, ◌-◌, ◌<◌, ◌≤◌, ◌^◌, List, [], ◌∷◌, ◌++◌, length, take, drop, Option, None, Some, Ok, refl, sym, ap, subst, ◌∙◌, arith, append_assoc, append-nil, length-append}
 use Rattle.std.specs.Io.KnownBytes.{Consumes, IsAtEnd}
 use Rattle.std.proofs.lemmas.List.{take-append-drop, drop-drop, drop_all, drop-take}
 use Rattle.log_record.specs.declared.record.Record.{Record}
@@ -16,7 +15,7 @@ use Rattle.log_file.proofs.Devices.{told, consumes_more, consumes_told, consumes
 use Rattle.log_file.proofs.Fed.{same_log, text_fault}
 use Rattle.merge_judge.specs.Begun.{BeginsLog}
 use Rattle.merge_judge.specs.OpenedLog.{OpenedLog}
-use Rattle.merge_judge.specs.inner.Following.{EndsAt, EndsWhole, Follows, IsNextOn, TakesOne}
+use Rattle.merge_judge.specs.inner.Following.{EndsAt, EndsWhole, Follows, TakesOne}
 use Rattle.merge_judge.proofs.Begins.{begins_there}
 
 -- ---- one record of the bytes that were read
@@ -51,32 +50,36 @@ settled_holds core cores front rest (At k f) h = h rest
 settled_holds core cores front rest OutOfMemory h = tt
 settled_holds core cores front rest Read h = absurd h
 
-module _ (core cores : ℕ) (first still : Option (List ℕ)) (log : OpenedLog) (records : List Record) (h : Follows core cores first still log records) where
-  begins_so_far : BeginsLog core cores ((h.bytes ++ log.unused) ++ told still) records
+module _ {core cores : ℕ} {first still : Option (List ℕ)} {log : OpenedLog} {records : List Record} (h : Follows core cores first still log records) where
+  abbrev text : List ℕ
+  text = (h.bytes ++ log.unused) ++ told still
+
+  tells_text : Tells first text
+  tells_text = consumes_told first still (h.bytes ++ log.unused) h.given
+
+  begins_so_far : BeginsLog core cores text records
   begins_so_far = begins_there core cores log.reader h.core_is h.cores_is h.bytes log.unused (told still) records h.answered
 
   -- the text that the log begins
   pub begun_text : (text : List ℕ) × Tells first text × BeginsLog core cores text records
-  begun_text = ((h.bytes ++ log.unused) ++ told still, consumes_told first still (h.bytes ++ log.unused) h.given, begins_so_far)
+  begun_text = (text, tells_text, begins_so_far)
 
   pub read_failed : EndsAt core cores first records Read
-  read_failed = record { text = begun_text.0; begins = begun_text.2; tells = begun_text.1; holds = tt }
+  read_failed = record { text = text; begins = begins_so_far; tells = tells_text; holds = tt }
 
-module _ (core cores : ℕ) (first still : Option (List ℕ)) (log new : OpenedLog) (records : List Record) (h : Follows core cores first still log records) where
   -- a fault of the bytes that were read
-  pub refused_at : (f : LogFault) → ((bytes : List ℕ) (rs : List Record) → HasAnswered log.reader bytes rs → TakesOne bytes rs log (Err f) new) → EndsAt core cores first records f
-  refused_at f takes =
-      let settled = same_log (λ c n. IsSettled c n (h.bytes ++ log.unused) f) h.core_is h.cores_is (takes h.bytes records h.answered) in
-      record {
-        text = (h.bytes ++ log.unused) ++ told still;
-        begins = begins_so_far core cores first still log records h;
-        tells = consumes_told first still (h.bytes ++ log.unused) h.given;
-        holds = settled_holds core cores (h.bytes ++ log.unused) (told still) f settled;
-      }
+  pub refused_at : (f : LogFault) → ((bytes : List ℕ) (rs : List Record) → HasAnswered log.reader bytes rs → IsSettled log.reader.core log.reader.cores (bytes ++ log.unused) f) → EndsAt core cores first records f
+  refused_at f settled = record {
+    text = text;
+    begins = begins_so_far;
+    tells = tells_text;
+    holds = settled_holds core cores (h.bytes ++ log.unused) (told still) f (same_log (λ c n. IsSettled c n (h.bytes ++ log.unused) f) h.core_is h.cores_is (settled h.bytes records h.answered));
+  }
 
-  pub next_taken : (r : Record) → new.reader.core ≡ log.reader.core → new.reader.cores ≡ log.reader.cores
+  -- one more record
+  pub next_taken : (new : OpenedLog) (r : Record) → new.reader.core ≡ log.reader.core → new.reader.cores ≡ log.reader.cores
       → ((bytes : List ℕ) (rs : List Record) → HasAnswered log.reader bytes rs → TakesOne bytes rs log (Ok (Some r)) new) → Follows core cores first still new (records ++ r ∷ [])
-  next_taken r same_core same_cores takes =
+  next_taken new r same_core same_cores takes =
       let t = takes h.bytes records h.answered in
       record {
         core_is = same_core ∙ h.core_is;
@@ -87,52 +90,38 @@ module _ (core cores : ℕ) (first still : Option (List ℕ)) (log new : OpenedL
       }
 
   -- after all bytes that were read, one more piece
-  pub filled_more : (mid : OpenedLog) (further : Option (List ℕ)) → mid.reader.core ≡ log.reader.core → mid.reader.cores ≡ log.reader.cores
+  pub filled_more : (mid new : OpenedLog) (further : Option (List ℕ)) → mid.reader.core ≡ log.reader.core → mid.reader.cores ≡ log.reader.cores
       → ((bytes : List ℕ) (rs : List Record) → HasAnswered log.reader bytes rs → TakesOne bytes rs log (Ok None) mid)
       → new.reader ≡ mid.reader → Consumes still further new.unused → Follows core cores first further new records
-  filled_more mid further same_core same_cores takes same given =
+  filled_more mid new further same_core same_cores takes same given =
       let t = takes h.bytes records h.answered in
       record {
         core_is = ap (λ (s : Answering). s.core) same ∙ same_core ∙ h.core_is;
         cores_is = ap (λ (s : Answering). s.cores) same ∙ same_cores ∙ h.cores_is;
         bytes = h.bytes ++ log.unused;
-        answered = subst (λ (s : Answering). HasAnswered s (h.bytes ++ log.unused) records) (sym same) t.1;
+        answered = rw same t.1;
         given = consumes_more first still further (h.bytes ++ log.unused) new.unused h.given given;
       }
 
-  -- a record, where one was taken
-  pub next_is : (o : Option Record) → is_some o ≡ true → new.reader.core ≡ log.reader.core → new.reader.cores ≡ log.reader.cores
-      → ((bytes : List ℕ) (rs : List Record) → HasAnswered log.reader bytes rs → TakesOne bytes rs log (Ok o) new) → IsNextOn core cores first records (Ok o) still (record { log = new; whole = false })
-  next_is None some same_core same_cores takes = absurd cc
-  next_is (Some r) some same_core same_cores takes = (next_taken r same_core same_cores takes, λ whole. absurd (let e : false ≡ true = whole in cc))
+  -- the end of the source
+  module _ (at_end : IsAtEnd still) (none : log.unused ≡ []) where
+    tells_bytes : Tells first h.bytes
+    tells_bytes = consumes_end first still h.bytes (subst (λ xs. Consumes first still xs) (ap (λ xs. h.bytes ++ xs) none ∙ append-nil h.bytes) h.given) at_end
 
-pub takes_none : (log mid : OpenedLog) (o : Option Record) → is_some o ≡ false → ((bytes : List ℕ) (rs : List Record) → HasAnswered log.reader bytes rs → TakesOne bytes rs log (Ok o) mid)
-    → (bytes : List ℕ) (rs : List Record) → HasAnswered log.reader bytes rs → TakesOne bytes rs log (Ok None) mid
-takes_none log mid None none takes = takes
-takes_none log mid (Some r) none takes = absurd cc
+    pub ends_whole : ((bytes : List ℕ) (rs : List Record) → HasAnswered log.reader bytes rs → Spells log.reader.core log.reader.cores bytes rs) → EndsWhole core cores first records
+    ends_whole spells = record {
+      text = h.bytes;
+      tells = tells_bytes;
+      spells = same_log (λ c n. Spells c n h.bytes records) h.core_is h.cores_is (spells h.bytes records h.answered);
+    }
 
-pub one_fault : {T : Type 0} (r : Result T LogFault) (x f : LogFault) → r ≡ Err x → x ≡ f → r ≡ Err Read → f ≡ Read
-one_fault r x f p q e = cc
-
--- the end of the source
-module _ (core cores : ℕ) (first still : Option (List ℕ)) (log : OpenedLog) (records : List Record) (h : Follows core cores first still log records) (at_end : IsAtEnd still) (none : log.unused ≡ []) where
-  tells_bytes : Tells first h.bytes
-  tells_bytes = consumes_end first still h.bytes (subst (λ xs. Consumes first still xs) (ap (λ xs. h.bytes ++ xs) none ∙ append-nil h.bytes) h.given) at_end
-
-  pub ends_whole : ((bytes : List ℕ) (rs : List Record) → HasAnswered log.reader bytes rs → Spells log.reader.core log.reader.cores bytes rs) → EndsWhole core cores first records
-  ends_whole spells = record {
-    text = h.bytes;
-    tells = tells_bytes;
-    spells = same_log (λ c n. Spells c n h.bytes records) h.core_is h.cores_is (spells h.bytes records h.answered);
-  }
-
-  pub ends_at : (f : LogFault) → ((bytes : List ℕ) (rs : List Record) → HasAnswered log.reader bytes rs → IsFaultOf log.reader.core log.reader.cores bytes f) → EndsAt core cores first records f
-  ends_at f holds = record {
-    text = h.bytes;
-    begins = subst (λ xs. BeginsLog core cores xs records) (append-nil (h.bytes ++ []) ∙ append-nil h.bytes) (begins_there core cores log.reader h.core_is h.cores_is h.bytes [] [] records h.answered);
-    tells = tells_bytes;
-    holds = (text_fault core cores h.bytes f (same_log (λ c n. IsFaultOf c n h.bytes f) h.core_is h.cores_is (holds h.bytes records h.answered))).0;
-  }
+    pub ends_at : (f : LogFault) → ((bytes : List ℕ) (rs : List Record) → HasAnswered log.reader bytes rs → IsFaultOf log.reader.core log.reader.cores bytes f) → EndsAt core cores first records f
+    ends_at f holds = record {
+      text = h.bytes;
+      begins = subst (λ xs. BeginsLog core cores xs records) (append-nil (h.bytes ++ []) ∙ append-nil h.bytes) (begins_there core cores log.reader h.core_is h.cores_is h.bytes [] [] records h.answered);
+      tells = tells_bytes;
+      holds = (text_fault core cores h.bytes f (same_log (λ c n. IsFaultOf c n h.bytes f) h.core_is h.cores_is (holds h.bytes records h.answered))).0;
+    }
 
 -- ---- that the search for a record ends
 
@@ -146,14 +135,21 @@ pub record HasRead (log : OpenedLog) (reads : ℕ) : Type 0 where
 pub read_none : (log : OpenedLog) → IsFaultless log.reader → HasRead log 0
 read_none log h = record { bytes = h.0; records = h.1.0; answered = h.1.1; few = omega arith }
 
-module _ (log mid new : OpenedLog) (reads : ℕ) (h : HasRead log reads) (takes : (bytes : List ℕ) (rs : List Record) → HasAnswered log.reader bytes rs → TakesOne bytes rs log (Ok None) mid) where
-  pub read_more : new.reader ≡ mid.reader → 1 ≤ length new.unused → HasRead new (reads + 1)
-  read_more same some = record {
+module _ {log : OpenedLog} {reads : ℕ} (h : HasRead log reads) (mid : OpenedLog) (takes : (bytes : List ℕ) (rs : List Record) → HasAnswered log.reader bytes rs → TakesOne bytes rs log (Ok None) mid) where
+  fed : (new : OpenedLog) → new.reader ≡ mid.reader → HasAnswered new.reader (h.bytes ++ log.unused) h.records
+  fed new same = rw same (takes h.bytes h.records h.answered).1
+
+  pub read_more : (new : OpenedLog) → new.reader ≡ mid.reader → 1 ≤ length new.unused → HasRead new (reads + 1)
+  read_more new same some = record {
     bytes = h.bytes ++ log.unused;
     records = h.records;
-    answered = subst (λ (s : Answering). HasAnswered s (h.bytes ++ log.unused) h.records) (sym same) (takes h.bytes h.records h.answered).1;
+    answered = fed new same;
     few = omega (arith, h.few, some, length-append h.bytes log.unused);
   }
 
   pub read_few : reads < 2 ^ 27
-  read_few = let few = read_long mid.reader (h.bytes ++ log.unused) h.records (takes h.bytes h.records h.answered).1 in omega (arith, few, h.few, length-append h.bytes log.unused)
+  read_few = omega (arith, read_long mid.reader (h.bytes ++ log.unused) h.records (fed mid refl), h.few, length-append h.bytes log.unused)
+
+  -- a fault at the end is one of the text
+  pub not_read : (new : OpenedLog) (f : LogFault) → new.reader ≡ mid.reader → ((bytes : List ℕ) (rs : List Record) → HasAnswered new.reader bytes rs → IsFaultOf new.reader.core new.reader.cores bytes f) → f ≡ Read → ⊥
+  not_read new f same ends = (text_fault new.reader.core new.reader.cores (h.bytes ++ log.unused) f (ends (h.bytes ++ log.unused) h.records (fed new same))).1

@@ -5,13 +5,13 @@ pub mod Falls
 pub mod Following
 pub mod LaneFacts
 pub mod Matches
+pub mod Places
 pub mod Merged
 pub mod WordFacts
 pub mod WritingFacts
 pub mod Opening
 pub mod FinalVerdict
 pub mod Shown
-pub mod MergeSoFar
 pub mod Quiet
 pub mod Texts
 pub mod Stopped

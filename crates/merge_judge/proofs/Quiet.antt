@@ -4,7 +4,6 @@ use Rattle.std.proofs.Common.{arith, subst}
 use Rattle.std.proofs.lemmas.List.{take_all}
 use Rattle.std.proofs.lemmas.Option.{slice_get_within}
 use Rattle.log_record.specs.declared.record.Record.{Record}
-use Rattle.log_record.specs.declared.record.Entry.{Entry}
 use Rattle.log_file.specs.declared.device_fault.WriteFault.{WriteFault}
 use Rattle.log_file.specs.declared.device_fault.WriteFault.TheVariants.{OutOfMemory as NoMemory, Write as WriteFailed}
 use Rattle.log_file.specs.declared.fault.LogFault.TheVariants.{Read}
@@ -12,8 +11,8 @@ use Rattle.log_file.specs.Sets.{NoneFailed}
 use Rattle.merge_judge.specs.Answer.{IsQuietUpTo, NoneFailedOf, judged}
 use Rattle.merge_judge.specs.LaneParts.{LaneParts}
 use Rattle.merge_judge.specs.WriteFaults.{from_write}
-use Rattle.merge_judge.specs.inner.Lanes.{IsMerged}
-use Rattle.merge_judge.proofs.Merged.{there}
+use Rattle.merge_judge.specs.inner.Lanes.{AreLanes}
+use Rattle.merge_judge.proofs.Places.{there}
 
 -- the counts of the first n are the same, where each one's is
 same_counts : {S : Type 0} (failed : S → ℕ) (old new : List S) (n : ℕ) → length new ≡ length old
@@ -28,14 +27,17 @@ same_counts failed (b ∷ old) (a ∷ new) (suc n) long same =
     let rest : map failed (take n new) ≡ map failed (take n old) = same_counts failed old new n (omega (arith, long)) (λ k x y l p q. same (suc k) x y (omega arith) p q) in
     cc
 
-module _ {S : Type 0} {remaining : S → Option (List ℕ)} {failed : S → ℕ} {before after : List S} {lanes : List LaneParts} {numbers : List ℕ} {clean : Bool} {merged : List (List Record)} {done : List Entry}
-    (m : IsMerged remaining failed before after lanes numbers clean merged done) where
+module _ {S : Type 0} {remaining : S → Option (List ℕ)} {failed : S → ℕ} {before after : List S} {lanes : List LaneParts} {numbers : List ℕ} {clean : Bool} {merged : List (List Record)}
+    (m : AreLanes remaining failed before after (length before) lanes numbers clean merged) where
   -- the readers of the first n files, none of whose logs has a failed read
   pub quiet_to : (n : ℕ) → ((k : ℕ) (l : LaneParts) → k < n → slice_get lanes k ≡ Some l → l.fault ≡ Some Read → ⊥) → NoneFailedOf n failed before after
   quiet_to n sound = same_counts failed before after n m.readers (λ k b a less hb ha.
-      let w = slice_get_within before k b hb in
-      let l = there lanes k (let many = m.many in omega (arith, w, many)) in
-      (m.lane k b a l.0 hb ha l.1).quiet (sound k l.0 less l.1))
+      let l = there lanes k (omega (arith, slice_get_within before k b hb, m.many)) in
+      let p = m.lane k l.0 l.1 in
+      let same = p.at.quiet (sound k l.0 less l.1) in
+      let first = p.is_first in
+      let now = p.is_now in
+      cc)
 
   -- all readers
   pub quiet_all : ((k : ℕ) (l : LaneParts) → slice_get lanes k ≡ Some l → l.fault ≡ Some Read → ⊥) → NoneFailed failed before after
@@ -47,7 +49,7 @@ module _ {S : Type 0} {remaining : S → Option (List ℕ)} {failed : S → ℕ}
 
   -- while no fault was found
   pub quiet_clean : clean ≡ true → NoneFailed failed before after
-  quiet_clean steady = quiet_all (λ k l hl read. (let none = m.whole steady k l hl in cc))
+  quiet_clean steady = quiet_all (λ k l hl read. (let none = (m.clean_is.0 steady k l hl).1 in cc))
 
 module _ {S : Type 0} (failed : S → ℕ) where
   -- a write that is refused

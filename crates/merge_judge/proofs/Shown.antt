@@ -22,14 +22,14 @@ use Rattle.verdict.specs.declared.answer.Verdict.TheVariants.{Yes, No}
 use Rattle.verdict.specs.Faults.{from_address}
 use Rattle.verdict.specs.VerdictOf.{verdict_of, verdict_with}
 use Rattle.merge_judge.specs.LaneParts.{LaneParts}
-use Rattle.merge_judge.specs.inner.Lanes.{IsMerged, IsTaken, add, entry_at, front_list, log_at}
+use Rattle.merge_judge.specs.inner.Lanes.{AreSound, IsMerged, IsTaken, add, entry_at, front_list, log_at}
 use Rattle.merge_judge.specs.inner.Memory.{first_along}
 use Rattle.merge_judge.proofs.Added.{add_here, add_long, add_other}
 use Rattle.merge_judge.proofs.Along.{along_is_least}
 use Rattle.merge_judge.proofs.Falls.{fall_past, never_front}
 use Rattle.merge_judge.proofs.FinalVerdict.{least_core}
 use Rattle.merge_judge.proofs.Opening.{no_entries}
-use Rattle.merge_judge.proofs.Merged.{there}
+use Rattle.merge_judge.proofs.Places.{there}
 
 abbrev pub ids : List Entry → List OpId
 ids done = map (λ e. e.id) done
@@ -123,16 +123,10 @@ module _ (order : List OpId) (merged : List (List Record)) (done : List Entry) (
   ))
   at_core lane (inr (inr none)) = inr (inr none)
 
-  elsewhere : (k : ℕ) (lane : LaneParts) → (k ≡ e.id.core → ⊥) → EndsHere h.logs merged k lane ⊎ (GoesOn h.logs merged k lane ⊎ (entries h.logs ≡ []))
-      → EndsHere h.logs merged_new k lane ⊎ (GoesOn h.logs merged_new k lane ⊎ (entries h.logs ≡ []))
-  elsewhere k lane other (inl ends) = inl (ends.0, ends.1, ends.2 ∙ sym (add_other merged e.id.core k e.logged other))
-  elsewhere k lane other (inr (inl (r, (rest, is, after)))) = inr (inl (r, (rest, is ∙ ap (λ rs. rs ++ front_list lane.front) (sym (add_other merged e.id.core k e.logged other)), after)))
-  elsewhere k lane other (inr (inr none)) = inr (inr none)
-
   next_still : (k : ℕ) (lane : LaneParts) → slice_get new k ≡ Some lane → EndsHere h.logs merged_new k lane ⊎ (GoesOn h.logs merged_new k lane ⊎ (entries h.logs ≡ []))
   next_still k lane hl = elim (cases_eq k e.id.core) [
-    | inl q ↦ subst (λ j. EndsHere h.logs merged_new j lane ⊎ (GoesOn h.logs merged_new j lane ⊎ (entries h.logs ≡ []))) (sym q) (at_core lane (h.next e.id.core taken.front.0 taken.front.1))
-    | inr q ↦ elsewhere k lane q (h.next k lane (sym (taken.others k q) ∙ hl))
+    | inl q ↦ rw q (at_core lane (h.next e.id.core taken.front.0 taken.front.1))
+    | inr q ↦ rw (add_other merged e.id.core k e.logged q) (h.next k lane (sym (taken.others k q) ∙ hl))
   ]
 
   shown_still : IsShown order merged_new (done ++ e ∷ []) new
@@ -161,37 +155,34 @@ module _ {S : Type 0} {remaining : S → Option (List ℕ)} {failed : S → ℕ}
     next = λ k l hl. goes_on k l hl l.front refl;
   }
     where
+      sound : AreSound lanes
+      sound = m.all.clean_is.0 refl
+
       sorted_is : done ≡ by_key merged
-      sorted_is = m.by_key_so_far (m.steady refl)
+      sorted_is = m.by_key_so_far (λ k l hl. (sound k l hl).0)
 
       goes_on : (k : ℕ) (l : LaneParts) → slice_get lanes k ≡ Some l → (o : Option Record) → l.front ≡ o → EndsHere merged merged k l ⊎ (GoesOn merged merged k l ⊎ (entries merged ≡ []))
-      goes_on k l hl None q = inl (q, m.whole refl k l hl, refl)
+      goes_on k l hl None q = inl (q, (sound k l hl).1, refl)
       goes_on k l hl (Some r) q = inr (inl (
         r,
         (
           [],
           ap (λ o. log_at merged k ++ front_list o) (sym q),
-          λ x p. m.come_before (m.steady refl) x (subst (λ es. In x es) (sym sorted_is) (In-from_sorted entry_cmp x (entries merged) p)) k l r hl q,
+          λ x p. m.come_before (λ j y hy. (sound j y hy).0) x (subst (λ es. In x es) (sym sorted_is) (In-from_sorted entry_cmp x (entries merged) p)) k l r hl q,
         ),
       ))
 
       all_rise : Rises merged
       all_rise k log h =
-          let w = slice_get_within merged k log h in
-          let b = there before k (let a = m.logs in omega (arith, w, a)) in
-          let a = there after k (let n = m.readers in let x = m.logs in omega (arith, w, n, x)) in
-          let l = there lanes k (let n = m.many in let x = m.logs in omega (arith, w, n, x)) in
-          let fall = (m.lane k b.0 a.0 l.0 b.1 a.1 l.1).first_fall in
+          let l = there lanes k (omega (arith, slice_get_within merged k log h, m.all.logs, m.all.many)) in
           let none_falls : IsLeastWhere (is_core_fault (log_at merged k ++ front_list l.0.front)) None =
-          subst (λ o. IsLeastWhere (is_core_fault (log_at merged k ++ front_list l.0.front)) o) (m.steady refl k l.0 l.1) fall in
-          let same : log_at merged k ≡ log = get_or_from_slice_get merged k log [] h in
-          subst (λ rs. (i : ℕ) → is_core_fault rs i ≡ false) same (never_front (log_at merged k) (front_list l.0.front) none_falls)
+          subst (λ o. IsLeastWhere (is_core_fault (log_at merged k ++ front_list l.0.front)) o) (sound k l.0 l.1).0 (m.all.lane k l.0 l.1).at.first_fall in
+          subst (λ rs. (i : ℕ) → is_core_fault rs i ≡ false) (get_or_from_slice_get merged k log [] h) (never_front (log_at merged k) (front_list l.0.front) none_falls)
 
   in_merged : (merged : List (List Record)) (done : List Entry) (e : Entry) (clean : Bool) (old : List LaneParts) → IsTaken e.id.core e.logged old lanes
       → IsMerged remaining failed before after lanes numbers clean (add merged e.id.core e.logged) (done ++ e ∷ []) → e.id.core < length merged
   in_merged merged done e clean old taken m =
-      let w = slice_get_within old e.id.core taken.front.0 taken.front.1 in
-      omega (arith, w, taken.many, m.many, m.logs, add_long merged e.id.core e.logged)
+      omega (arith, slice_get_within old e.id.core taken.front.0 taken.front.1, taken.many, m.all.many, m.all.logs, add_long merged e.id.core e.logged)
 
   pub shown_more : (merged : List (List Record)) (done : List Entry) (order : List OpId) (e : Entry) (fault : Option AddressFault) (clean : Bool)
       → (old : List LaneParts) → IsTaken e.id.core e.logged old lanes → IsShown order merged done old → IsMerged remaining failed before after lanes numbers clean (add merged e.id.core e.logged) (done ++ e ∷ [])

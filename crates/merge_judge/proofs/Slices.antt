@@ -1,13 +1,14 @@
 -- Logs whose records are there, as texts that sources tell.
 use Rattle.std.specs.Prelude.{◌≡◌, ◌==◌, ◌<◌, ◌≤◌, ◌⊎◌, All, drop, ℕ, zero, suc, ◌+◌, true, false, List, [], ◌∷◌, ◌++◌, refl, Option, None, Some, Result, Ok, Err, IfErr, IfSome, MatchResult, get_or, length, map, slice_get}
 use Rattle.std.specs.List.{AllZip}
-use Rattle.std.proofs.Common.{sym, ◌∙◌, ap, subst, arith, inl, inr, append_assoc, append-nil, length-append}
+use Rattle.std.proofs.Common.{add-one, sym, ◌∙◌, ap, subst, arith, inl, inr, append_assoc, append-nil, length-append}
 use Rattle.std.specs.Io.KnownBytes.{Consumes}
-use Rattle.std.proofs.lemmas.Grind.{flat_map-append}
+use Rattle.std.proofs.lemmas.Grind.{common_steps, flat_map-append}
 use Rattle.std.proofs.lemmas.List.{drop_all, length-map}
-use Rattle.std.proofs.lemmas.List.Elements.{All-cons, All-get_or, All-head, All-nil, All-tail}
+use Rattle.std.proofs.lemmas.List.Elements.{All-get_or, All-head, All-map, All-nil, All-tail}
 use Rattle.std.proofs.lemmas.Slice.Zip.{AllZip-long}
-use Rattle.std.proofs.lemmas.Option.{slice_get-get_or, slice_get_within}
+use Rattle.std.proofs.Math.Seq.{drop-cons}
+use Rattle.std.proofs.lemmas.Option.{get_or_from_slice_get, gets, slice_get-get_or, slice_get_within}
 use Rattle.mem_op.specs.Limits.{operation_limit}
 use Rattle.log_record.specs.declared.format.Format.TheVariants.{Two}
 use Rattle.log_record.specs.declared.record.Record.{Record}
@@ -18,11 +19,9 @@ use Rattle.log_file.specs.Sets.{ReaderFailed, SpellFrom, SpellSet}
 use Rattle.log_file.proofs.Devices.{consumes_end}
 use Rattle.log_file.proofs.Fed.{same_log}
 use Rattle.log_file.proofs.Lines.{begun_push, fits_push, spelling_is}
-use Rattle.verdict.specs.Counts.{IsBadCount}
 use Rattle.verdict.specs.Judgement.{IsAnswerTo}
 use Rattle.verdict.specs.VerdictOf.{verdict_of}
 use Rattle.verdict.specs.declared.answer.Verdict.{Verdict}
-use Rattle.verdict.specs.declared.judge_fault.Count.{Count}
 use Rattle.verdict.specs.declared.judge_fault.Count.TheVariants.{Files}
 use Rattle.verdict.specs.declared.judge_fault.JudgeFault.{JudgeFault}
 use Rattle.verdict.specs.declared.judge_fault.JudgeFault.TheVariants.{BadConfig, Log, OutOfMemory, Read}
@@ -40,16 +39,11 @@ use Rattle.merge_judge.specs.inner.Judging.{IsMergedBy, IsNoCount}
 -- the line of the record at an index, and those after it
 lines_more : (records : List Record) (at : ℕ) (r : Record) → slice_get records at ≡ Some r → lines_from records at ≡ with_lf (record_text r) ++ lines_from records (at + 1)
 lines_more records at r there =
-    subst (λ n. lines_from records at ≡ with_lf (record_text r) ++ (text_of (map record_text (drop n records)) ++ end)) (let e : suc at ≡ at + 1 = omega arith in e) (go records at there)
+    ap (λ rs. text_of (map record_text rs) ++ text_of (end_text (length records) ∷ [])) dropped
+    ∙ append_assoc (with_lf (record_text r)) (text_of (map record_text (drop (at + 1) records))) (text_of (end_text (length records) ∷ []))
   where
-    end : List ℕ
-    end = text_of (end_text (length records) ∷ [])
-
-    go : (rs : List Record) (k : ℕ) → slice_get rs k ≡ Some r → text_of (map record_text (drop k rs)) ++ end ≡ with_lf (record_text r) ++ (text_of (map record_text (drop (suc k) rs)) ++ end)
-    go [] zero h = absurd cc
-    go [] (suc k) h = absurd cc
-    go (q ∷ rs) zero h = let e : q ≡ r = cc in ap (λ (x : Record). text_of (record_text x ∷ map record_text rs) ++ end) e ∙ append_assoc (with_lf (record_text r)) (text_of (map record_text rs)) end
-    go (q ∷ rs) (suc k) h = go rs k h
+    dropped : drop at records ≡ r ∷ drop (at + 1) records
+    dropped = rw add-one (drop-cons records at r (slice_get_within records at r there) ∙ ap (λ x. x ∷ drop (suc at) records) (get_or_from_slice_get records at r r there))
 
 module _ (core cores own_core own_cores : ℕ) (first still : Option (List ℕ)) (records : List Record) (at : ℕ) (answered : List Record) (h : FollowsOn core cores first still (kept_at own_core own_cores records at) answered) where
   pub given_more : (r : Record) → slice_get records at ≡ Some r → FitsIn Two r → at + 1 ≤ operation_limit → IsNextOn core cores first answered (Ok (Some r)) still (kept_at own_core own_cores records (at + 1))
@@ -94,8 +88,9 @@ module _ (core cores own_core own_cores : ℕ) (first still : Option (List ℕ))
           ∙ ap (λ bs. text_of (begun Two own_core own_cores answered) ++ bs) last ∙ sym (spelling_is Two own_core own_cores answered)
 
 -- the log as it is opened
-given_first : (core cores : ℕ) (records : List Record) → core < cores → cores ≤ 64 → FollowsOn core cores (Some (text_left core cores records false)) (Some (text_left core cores records true)) (kept_at core cores records 0) []
-given_first core cores records core_fits cores_fit = (
+pub handed_over : (core cores : ℕ) (s : GivenLog) → core < cores → cores ≤ 64 → s.core ≡ core → s.cores ≡ cores → s.given ≡ false
+    → FollowsOn core cores (Some (text_left s.core s.cores s.records s.given)) (Some (text_left s.core s.cores s.records true)) (kept_at core cores s.records 0) []
+handed_over core cores s core_fits cores_fit core_is cores_is none = rw (core_is, cores_is, none) (
   record {
     core_is = refl;
     cores_is = refl;
@@ -113,19 +108,12 @@ given_first core cores records core_fits cores_fit = (
   λ all. refl,
 )
   where
-    whole : spelling Two core cores records ≡ (text_of (begun Two core cores []) ++ lines_from records 0) ++ []
+    whole : spelling Two core cores s.records ≡ (text_of (begun Two core cores []) ++ lines_from s.records 0) ++ []
     whole = simp (flat_map-append, append_assoc, append-nil)
-
-pub handed_over : (core cores : ℕ) (s : GivenLog) → core < cores → cores ≤ 64 → s.core ≡ core → s.cores ≡ cores → s.given ≡ false
-    → FollowsOn core cores (Some (text_left s.core s.cores s.records s.given)) (Some (text_left s.core s.cores s.records true)) (kept_at core cores s.records 0) []
-handed_over core cores s core_fits cores_fit core_is cores_is none =
-    rw (core_is, cores_is, none) (given_first core cores s.records core_fits cores_fit)
 
 -- nothing stands past the end alone
 pub nothing_from : {X : Type 0} (items : List X) (at : ℕ) → slice_get items at ≡ None → length items ≤ at
-nothing_from [] at h = omega arith
-nothing_from (x ∷ items) zero h = absurd cc
-nothing_from (x ∷ items) (suc at) h = let later = nothing_from items at h in omega (arith, later)
+nothing_from items at h = grind (arith, common_steps, gets)
 
 -- ---- the sources of all logs
 
@@ -160,49 +148,30 @@ texts_spell core cores (log ∷ records) (t ∷ texts) good many few tells =
     let later = texts_spell (core + 1) cores records texts (All-tail AreOfLog log records good) (omega (arith, many)) few tells.1 in
     ((Two, (record { core_fits = omega (arith, many); cores_fit = few; few = first.few; each_fits = first.fit }, sym tells.0)), later)
 
-all_records : (sources : List GivenLog) → All (λ (log : GivenLog). AreOfLog log.records) sources → All AreOfLog (records_of sources)
-all_records [] good = All-nil AreOfLog
-all_records (s ∷ sources) good = All-cons AreOfLog s.records (records_of sources) (All-head (λ (log : GivenLog). AreOfLog log.records) s sources good) (all_records sources (All-tail (λ (log : GivenLog). AreOfLog log.records) s sources good))
-
 -- ---- the answer
 
+-- what may be answered for these logs
+abbrev pub IsVerdictOn : List (List Record) → Result Verdict JudgeFault → Type 0
+IsVerdictOn logs r = MatchResult r (λ verdict. verdict ≡ verdict_of logs) (λ fault. (fault ≡ BadConfig Files) ⊎ (fault ≡ OutOfMemory))
+
 -- what is answered to texts that spell these logs is the verdict on them, where no reader fails
-pub answered_so : (texts : List (List ℕ)) (logs : List (List Record)) (r : Result Verdict JudgeFault) → SpellSet texts logs → IsAnswerTo texts r → ((file : ℕ) → r ≡ Err (Read file) → ⊥) → ((count : Count) → r ≡ Err (BadConfig count) → ⊥)
-    → MatchResult r (λ verdict. verdict ≡ verdict_of logs) (λ fault. (fault ≡ BadConfig Files) ⊎ (fault ≡ OutOfMemory))
-answered_so texts logs (Ok verdict) spell answer unread counts =
+answered_so : {S : Type 0} (before after : List S) (texts : List (List ℕ)) (logs : List (List Record)) (result : Result Verdict MergeFault) → SpellSet texts logs → IfSome (judged result) (IsAnswerTo texts)
+    → IfErr result (λ fault. (file : ℕ) → fault ≡ Judge (Read file) → ReaderFailed {S = S} (λ _. 0) before after file) → IfErr result IsNoCount → IfSome (judged result) (IsVerdictOn logs)
+answered_so before after texts logs (Ok verdict) spell answer read counted =
     let is = one_answer verdict_of texts (Ok verdict) (Ok (verdict_of logs)) tt tt answer (logs, spell, refl) in cc
-answered_so texts logs (Err (Log file line f)) spell answer unread counts =
+answered_so before after texts logs (Err (Judge (Log file line f))) spell answer read counted =
     let is = one_answer verdict_of texts (Err (Log file line f)) (Ok (verdict_of logs)) tt tt answer (logs, spell, refl) in cc
-answered_so texts logs (Err (Read file)) spell answer unread counts = absurd (unread file refl)
-answered_so texts logs (Err (BadConfig count)) spell answer unread counts = absurd (counts count refl)
-answered_so texts logs (Err OutOfMemory) spell answer unread counts = inr refl
+answered_so before after texts logs (Err (Judge (Read file))) spell answer read counted =
+    let failed : Failed 0 0 = (read file refl).1.3 in absurd (elim failed [ inl less ↦ omega (arith, less) | inr most ↦ omega (arith, most) ])
+answered_so before after texts logs (Err (Judge (BadConfig count))) spell answer read counted = absurd (counted tt)
+answered_so before after texts logs (Err (Judge OutOfMemory)) spell answer read counted = inr refl
+answered_so before after texts logs (Err Write) spell answer read counted = tt
 
--- no read of what never fails is told as failed, nor is a count
-never_read : {S : Type 0} (before after : List S) (result : Result Verdict MergeFault) (r : Result Verdict JudgeFault) (file : ℕ) → IfErr result (λ fault. (k : ℕ) → fault ≡ Judge (Read k) → ReaderFailed {S = S} (λ _. 0) before after k)
-    → judged result ≡ Some r → r ≡ Err (Read file) → ⊥
-never_read before after (Ok v) r file read is h = cc
-never_read before after (Err Write) r file read is h = cc
-never_read before after (Err (Judge f)) r file read is h =
-    let e : f ≡ Read file = cc in
-    let t = read file (ap (λ x. Judge x) e) in
-    failed_not t.1.3
-  where
-    failed_not : Failed 0 0 → ⊥
-    failed_not (inl less) = omega (arith, less)
-    failed_not (inr most) = omega (arith, most)
-
-never_count : (result : Result Verdict MergeFault) (r : Result Verdict JudgeFault) (count : Count) → IfErr result IsNoCount → judged result ≡ Some r → r ≡ Err (BadConfig count) → ⊥
-never_count (Ok v) r count counted is h = cc
-never_count (Err Write) r count counted is h = cc
-never_count (Err (Judge f)) r count counted is h = let e : f ≡ BadConfig count = cc in counted (subst IsBadCount (sym e) tt)
-
-pub verdict_so : (sources after : List GivenLog) (old new : Option (List ℕ)) (result : Result Verdict MergeFault) (r : Result Verdict JudgeFault)
+pub verdict_so : (sources after : List GivenLog) (old new : Option (List ℕ)) (result : Result Verdict MergeFault)
     → sources ≡ logs_from 0 (length sources) (records_of sources) → All (λ (log : GivenLog). AreOfLog log.records) sources → length sources ≤ 64
-    → IsMergedBy (λ (s : GivenLog). Some (text_left s.core s.cores s.records s.given)) (λ _. 0) old new sources after result → IfErr result IsNoCount → judged result ≡ Some r
-    → MatchResult r (λ verdict. verdict ≡ verdict_of (records_of sources)) (λ fault. (fault ≡ BadConfig Files) ⊎ (fault ≡ OutOfMemory))
-verdict_so sources after old new result r is good few b counted told =
-    answered_so b.texts (records_of sources) r spell (subst (λ o. IfSome o (IsAnswerTo b.texts)) told b.answers)
-    (λ file h. never_read sources after result r file b.read told h) (λ count h. never_count result r count counted told h)
+    → IsMergedBy (λ (s : GivenLog). Some (text_left s.core s.cores s.records s.given)) (λ _. 0) old new sources after result → IfErr result IsNoCount
+    → IfSome (judged result) (IsVerdictOn (records_of sources))
+verdict_so sources after old new result is good few b counted = answered_so sources after b.texts (records_of sources) result spell b.answers b.read counted
   where
     tells_in : GivenLog → List ℕ → Type 0
     tells_in s text = Tells (Some (text_left s.core s.cores s.records s.given)) text
@@ -211,5 +180,5 @@ verdict_so sources after old new result r is good few b counted told =
     many = AllZip-long tells_in sources b.texts b.tells
 
     spell : SpellSet b.texts (records_of sources)
-    spell = subst (λ n. SpellFrom 0 n b.texts (records_of sources)) (sym many) (texts_spell 0 (length sources) (records_of sources) b.texts (all_records sources good)
+    spell = subst (λ n. SpellFrom 0 n b.texts (records_of sources)) (sym many) (texts_spell 0 (length sources) (records_of sources) b.texts (All-map AreOfLog (λ (log : GivenLog). log.records) sources good)
         (omega (arith, length-map sources (λ (log : GivenLog). log.records))) few (subst (λ ss. AllZip tells_in ss b.texts) is b.tells))

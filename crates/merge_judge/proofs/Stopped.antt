@@ -37,9 +37,9 @@ use Rattle.log_file.specs.Log.{Spells}
 use Rattle.merge_judge.proofs.Along.{after_is_fault}
 use Rattle.merge_judge.proofs.Begins.{begins_front}
 use Rattle.merge_judge.proofs.Falls.{fall_left}
-use Rattle.merge_judge.proofs.MergeSoFar.{front_of}
+use Rattle.merge_judge.proofs.WritingFacts.{front_of}
 use Rattle.merge_judge.proofs.Opening.{no_entries, none_there}
-use Rattle.merge_judge.proofs.Merged.{there}
+use Rattle.merge_judge.proofs.Places.{there}
 use Rattle.merge_judge.proofs.Shown.{IsShown, none_yes, yes_where}
 
 -- what is written of the ids that are shown
@@ -51,16 +51,16 @@ begins_order texts result order merged done lanes written kept s begun lines bef
     many = s.many ∙ begun.many;
     each = λ k w. (let b = s.begins k in let l = there lanes k (omega (arith, w, begun.lanes_many)) in
         begins_front k (length texts) (text_at texts k) (log_at s.logs k) (b.0 ++ front_list l.0.front)
-        (subst (λ rs. BeginsLog k (length texts) (text_at texts k) rs) (ap (λ rs. rs ++ front_list l.0.front) (sym b.1) ∙ append_assoc (log_at s.logs k) b.0 (front_list l.0.front)) (begun.each k l.0 l.1)));
+        (subst (λ rs. BeginsLog k (length texts) (text_at texts k) rs) (ap (λ rs. rs ++ front_list l.0.front) (sym b.1) ∙ append_assoc (log_at s.logs k) b.0 (front_list l.0.front)) (begun.each k l.0 l.1).begins));
   };
   next = λ k w. (let l = there lanes k (omega (arith, w, begun.lanes_many)) in elim (s.next k l.0 l.1) [
-    | inl ends ↦ inl (subst (λ rs. Spells k (length texts) (text_at texts k) rs) (sym ends.2) (begun.whole k l.0 l.1 ends.0 ends.1))
+    | inl ends ↦ inl (subst (λ rs. Spells k (length texts) (text_at texts k) rs) (sym ends.2) ((begun.each k l.0 l.1).whole ends.0 ends.1))
     | inr more ↦ elim more [
       | inl t ↦ inr (inl (
         t.0,
         (
           begins_front k (length texts) (text_at texts k) (log_at s.logs k ++ t.0 ∷ []) t.1.0
-              (subst (λ rs. BeginsLog k (length texts) (text_at texts k) rs) (sym t.1.1 ∙ sym (append_assoc (log_at s.logs k) (t.0 ∷ []) t.1.0)) (begun.each k l.0 l.1)),
+              (subst (λ rs. BeginsLog k (length texts) (text_at texts k) rs) (sym t.1.1 ∙ sym (append_assoc (log_at s.logs k) (t.0 ∷ []) t.1.0)) (begun.each k l.0 l.1).begins),
           t.1.2,
         ),
       ))

@@ -1,21 +1,17 @@
 -- What the readers told of logs that are merged so far.
-use Rattle.std.specs.Prelude.{◌≡◌, ℕ, zero, suc, ◌<◌, Bool, List, [], ◌∷◌, ◌++◌, refl, Option, Some, None, length, slice_get}
+use Rattle.std.specs.Prelude.{◌≡◌, ℕ, zero, suc, Bool, List, [], ◌∷◌, refl, Option, Some, None, length, slice_get}
 use Rattle.std.proofs.Common.{sym, ap, subst, ◌∙◌, arith, append-nil}
 use Rattle.std.proofs.lemmas.Option.{slice_get_within}
 use Rattle.log_record.specs.declared.record.Record.{Record}
-use Rattle.log_record.specs.declared.record.Entry.{Entry}
 use Rattle.log_file.specs.declared.fault.LogFault.{LogFault}
-use Rattle.log_file.specs.Answers.{IsFaultOrDevice}
 use Rattle.log_file.specs.Devices.{Tells}
-use Rattle.log_file.specs.Log.{Spells}
 use Rattle.log_file.specs.Sets.{TellEach, text_at}
-use Rattle.merge_judge.specs.Begun.{BeginsLog}
 use Rattle.merge_judge.specs.LaneParts.{KeptLog, LaneParts}
-use Rattle.merge_judge.specs.inner.FinalVerdict.{AreBegun}
-use Rattle.merge_judge.specs.inner.Lanes.{IsMerged, IsStage, front_list, log_at}
+use Rattle.merge_judge.specs.inner.FinalVerdict.{AreBegun, IsBegun}
+use Rattle.merge_judge.specs.inner.Lanes.{AreLanes, IsStage, log_at}
 use Rattle.merge_judge.proofs.Begins.{begins_whole}
 use Rattle.merge_judge.proofs.Following.{begun_text}
-use Rattle.merge_judge.proofs.Merged.{one, there}
+use Rattle.merge_judge.proofs.Places.{one, there}
 
 -- ---- one text for each reader
 
@@ -40,45 +36,34 @@ tell_each remaining (x ∷ xs) (text ∷ texts) long h = (h 0 x refl, tell_each 
 
 -- ---- what the texts begin with, or spell, and their faults
 
-abbrev IsBegun : ℕ → ℕ → List ℕ → List Record → Option Record → Option LogFault → Type 0
-IsBegun core cores text merged front fault =
-    BeginsLog core cores text (merged ++ front_list front) × (front ≡ None → fault ≡ None → Spells core cores text merged) × ((f : LogFault) → fault ≡ Some f → IsFaultOrDevice core cores text f)
-
 begun_stage : (core cores : ℕ) (first still : Option (List ℕ)) (log : KeptLog) (merged : List Record) (front : Option Record) (fault : Option LogFault) → IsStage core cores first still log merged front fault → (text : List ℕ) × (Tells first text × IsBegun core cores text merged front fault)
 begun_stage core cores first still log merged (Some r) fault h =
-    let t = begun_text core cores first still log.log (merged ++ r ∷ []) h.1.0 in
-    (t.0, (t.1, (t.2, (λ none. absurd cc), λ f found. absurd (let none : fault ≡ None = h.0 in cc))))
+    let t = begun_text h.1.0 in
+    (t.0, (t.1, record { begins = t.2; whole = λ none. absurd cc; faults = λ f found. absurd (let none : fault ≡ None = h.0 in cc) }))
 begun_stage core cores first still log merged None None h =
-    (h.text, (h.tells, (subst (λ rs. BeginsLog core cores h.text rs) (sym (append-nil merged)) (begins_whole core cores h.text merged h.spells), (λ none sound. h.spells), λ f found. absurd cc)))
+    (h.text, (h.tells, record { begins = rw append-nil (begins_whole core cores h.text merged h.spells); whole = λ none sound. h.spells; faults = λ f found. absurd cc }))
 begun_stage core cores first still log merged None (Some f) h =
-    (h.text, (h.tells, (subst (λ rs. BeginsLog core cores h.text rs) (sym (append-nil merged)) h.begins, (λ none sound. absurd cc), λ g found. let same : f ≡ g = cc in subst (λ x. IsFaultOrDevice core cores h.text x) same h.holds)))
+    (h.text, (h.tells, record { begins = rw append-nil h.begins; whole = λ none sound. absurd cc; faults = λ g found. (let same : g ≡ f = cc in rw same h.holds) }))
 
-pub begun_texts : {S : Type 0} {remaining : S → Option (List ℕ)} {failed : S → ℕ} {before after : List S} {lanes : List LaneParts} {numbers : List ℕ} {clean : Bool} {merged : List (List Record)} {done : List Entry}
-    → IsMerged remaining failed before after lanes numbers clean merged done → (texts : List (List ℕ)) × (TellEach remaining before texts × AreBegun texts lanes merged)
-begun_texts {S} {remaining} {failed} {before} {after} {lanes} {numbers} {clean} {merged} {done} m = (
+pub begun_texts : {S : Type 0} {remaining : S → Option (List ℕ)} {failed : S → ℕ} {before after : List S} {lanes : List LaneParts} {numbers : List ℕ} {clean : Bool} {merged : List (List Record)}
+    → AreLanes remaining failed before after (length before) lanes numbers clean merged → (texts : List (List ℕ)) × (TellEach remaining before texts × AreBegun texts lanes merged)
+begun_texts {S} {remaining} {failed} {before} {after} {lanes} {numbers} {clean} {merged} m = (
   all.0,
   (
-    tell_each remaining before all.0 all.1.0 (λ k b h. (all.1.1 k b h).0),
-    record {
-      many = m.logs ∙ sym all.1.0;
-      lanes_many = m.many ∙ sym all.1.0;
-      each = λ k l hl. (let b = there before k (within k l hl) in subst (λ n. BeginsLog k n (text_at all.0 k) (log_at merged k ++ front_list l.front)) (sym all.1.0) ((all.1.1 k b.0 b.1).1 l hl).0);
-      whole = λ k l hl none sound. (let b = there before k (within k l hl) in subst (λ n. Spells k n (text_at all.0 k) (log_at merged k)) (sym all.1.0) (((all.1.1 k b.0 b.1).1 l hl).1 none sound));
-      faults = λ k l f hl found. (let b = there before k (within k l hl) in subst (λ n. IsFaultOrDevice k n (text_at all.0 k) f) (sym all.1.0) (((all.1.1 k b.0 b.1).1 l hl).2 f found));
-    },
+    tell_each remaining before all.0 many (λ k b hb. (let l = there lanes k (omega (arith, slice_get_within before k b hb, m.many)) in let t = (all.1.1 k l.0 l.1).0 in
+        subst (λ s. Tells (remaining s) (text_at all.0 k)) (one (slice_get before k) t.0 b t.1 hb) t.2)),
+    record { many = m.logs ∙ sym many; lanes_many = sym all.1.0; each = λ k l hl. rw many (all.1.1 k l hl).1 },
   ),
 )
   where
-    IsTextOf : ℕ → S → List ℕ → Type 0
-    IsTextOf k b text = Tells (remaining b) text × ((l : LaneParts) → slice_get lanes k ≡ Some l → IsBegun k (length before) text (log_at merged k) l.front l.fault)
+    IsTextOf : ℕ → LaneParts → List ℕ → Type 0
+    IsTextOf k l text = ((b : S) × (slice_get before k ≡ Some b) × Tells (remaining b) text) × IsBegun k (length before) text (log_at merged k) l.front l.fault
 
-    within : (k : ℕ) (l : LaneParts) → slice_get lanes k ≡ Some l → k < length before
-    within k l hl = let w = slice_get_within lanes k l hl in omega (arith, w, m.many)
+    all : (texts : List (List ℕ)) × ((length texts ≡ length lanes) × ((k : ℕ) (l : LaneParts) → slice_get lanes k ≡ Some l → IsTextOf k l (text_at texts k)))
+    all = gather IsTextOf lanes (λ k l hl.
+        let p = m.lane k l hl in
+        let t = begun_stage k (length before) (remaining p.first) (remaining p.now) l.log (log_at merged k) l.front l.fault p.at.stage in
+        (t.0, ((p.first, p.is_first, t.1.0), t.1.1)))
 
-    all : (texts : List (List ℕ)) × ((length texts ≡ length before) × ((k : ℕ) (b : S) → slice_get before k ≡ Some b → IsTextOf k b (text_at texts k)))
-    all = gather IsTextOf before (λ k b hb.
-        let w = slice_get_within before k b hb in
-        let a = there after k (omega (arith, w, m.readers)) in
-        let l = there lanes k (omega (arith, w, m.many)) in
-        let t = begun_stage k (length before) (remaining b) (remaining a.0) l.0.log (log_at merged k) l.0.front l.0.fault (m.lane k b a.0 l.0 hb a.1 l.1).stage in
-        (t.0, (t.1.0, λ x hx. subst (λ (y : LaneParts). IsBegun k (length before) t.0 (log_at merged k) y.front y.fault) (one (slice_get lanes k) l.0 x l.1 hx) t.1.1)))
+    many : length all.0 ≡ length before
+    many = all.1.0 ∙ m.many

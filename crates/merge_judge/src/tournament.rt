@@ -54,8 +54,7 @@ fn winner(numbers: &[u128], a: usize, b: usize) -> usize
 fn play(numbers: &[u128], winners: &[usize], place: usize) -> usize
     requires few { length numbers.now ≤ 64 }
     requires many { length winners.now ≡ length numbers.now }
-    requires within { (later : ℕ) → place < later → later < length numbers.now
-        → slice_index winners.now later < length numbers.now }
+    requires within { (k : ℕ) → k < length numbers.now → slice_index winners.now k < length numbers.now }
     requires place { 1 ≤ place }
     requires some { place < length numbers.now }
     ensures wins { result ≡ match_at numbers.now winners.now place }
@@ -71,7 +70,7 @@ fn play_again(numbers: &[u128], winners: &mut [usize], place: usize)
     requires few { length numbers.now ≤ 64 }
     requires some { place < length numbers.now }
     requires played { ArePlayedBut place numbers.now winners.old }
-    ensures { ArePlayed numbers.now winners.new 1 }
+    ensures { ArePlayed numbers.now winners.new }
 {
     let mut at = numbers.len() + place;
     while at > 1 {
@@ -84,7 +83,8 @@ fn play_again(numbers: &[u128], winners: &mut [usize], place: usize)
 fn play_all(numbers: &[u128], winners: &mut [usize])
     requires few { length numbers.now ≤ 64 }
     requires many { length winners.old ≡ length numbers.now }
-    ensures { ArePlayed numbers.now winners.new 1 }
+    requires within { (k : ℕ) → k < length numbers.now → slice_index winners.old k < length numbers.now }
+    ensures { ArePlayed numbers.now winners.new }
 {
     for at in (1..numbers.len()).rev() {
         winners[at] = play(numbers, winners, at);

@@ -16,7 +16,7 @@ use Rattle.verdict.specs.VerdictOf.{verdict_of}
 use Rattle.verdict.specs.FaultParts.{FaultParts}
 use Rattle.verdict.specs.Faults.{from_address}
 use Rattle.verdict.specs.declared.rule.Rule.TheVariants.{CoreOrder}
-use Rattle.merge_judge.specs.inner.Lanes.{NoFalls, front_list, log_at}
+use Rattle.merge_judge.specs.inner.Lanes.{AreSound, NoFalls, front_list, log_at}
 use Rattle.log_file.specs.declared.fault.LogFault.{LogFault}
 use Rattle.log_file.specs.declared.fault.SetFault.{SetFault}
 use Rattle.log_file.specs.Answers.{IsFaultOrDevice}
@@ -49,18 +49,21 @@ IsFaultIn lanes merged fault =
 -- a verdict is on these records, which the texts spell; with a Yes no log has a fault or falls, and a No's fault is one of theirs
 abbrev pub IsClean : List LaneParts → List (List Record) → List (List ℕ) → Result Verdict JudgeFault → Type 0
 IsClean lanes merged texts (Ok (Yes count)) =
-    SpellSet texts merged × (Yes count ≡ verdict_of merged) × ((k : ℕ) (lane : LaneParts) → slice_get lanes k ≡ Some lane → (lane.falls ≡ None) × (lane.fault ≡ None))
+    SpellSet texts merged × (Yes count ≡ verdict_of merged) × AreSound lanes
 IsClean lanes merged texts (Ok (No fault)) = SpellSet texts merged × IsFaultIn lanes merged fault
 IsClean lanes merged texts (Err fault) = Unit {0}
 
--- Each text begins with the merged records of its log, and then the front. If the log has ended without a fault, the text
+-- A text begins with the merged records of its log, and then the front. If the log has ended without a fault, the text
 -- spells just these records. A fault that was found is the text's, or it comes of memory or of the reader.
+pub record IsBegun (core cores : ℕ) (text : List ℕ) (merged : List Record) (front : Option Record) (fault : Option LogFault) : Type 0 where
+  pub begins : BeginsLog core cores text (merged ++ front_list front)
+  pub whole : front ≡ None → fault ≡ None → Spells core cores text merged
+  pub faults : (f : LogFault) → fault ≡ Some f → IsFaultOrDevice core cores text f
+
 pub record AreBegun (texts : List (List ℕ)) (lanes : List LaneParts) (merged : List (List Record)) : Type 0 where
   pub many : length merged ≡ length texts
   pub lanes_many : length lanes ≡ length texts
-  pub each : (k : ℕ) (lane : LaneParts) → slice_get lanes k ≡ Some lane → BeginsLog k (length texts) (text_at texts k) (log_at merged k ++ front_list lane.front)
-  pub whole : (k : ℕ) (lane : LaneParts) → slice_get lanes k ≡ Some lane → lane.front ≡ None → lane.fault ≡ None → Spells k (length texts) (text_at texts k) (log_at merged k)
-  pub faults : (k : ℕ) (lane : LaneParts) (fault : LogFault) → slice_get lanes k ≡ Some lane → lane.fault ≡ Some fault → IsFaultOrDevice k (length texts) (text_at texts k) fault
+  pub each : (k : ℕ) (lane : LaneParts) → slice_get lanes k ≡ Some lane → IsBegun k (length texts) (text_at texts k) (log_at merged k) lane.front lane.fault
 
 -- the answer to the texts that the readers told
 pub record IsFinalVerdict {S : Type 0} (remaining : S → Option (List ℕ)) (failed : S → ℕ) (before after : List S) (lanes : List LaneParts) (merged : List (List Record)) (result : Result Verdict JudgeFault) : Type 0 where

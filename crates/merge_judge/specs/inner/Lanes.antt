@@ -1,5 +1,5 @@
 -- The logs of a set while they are merged.
-use Rattle.std.specs.Prelude.{◌≡◌, ◌≢◌, ℕ, zero, suc, ◌+◌, ◌*◌, ◌<◌, ◌≤◌, ◌⊎◌, Bool, true, false, List, [], ◌∷◌, ◌++◌, Option, None, Some, if◌then◌else◌, length, slice_get, slice_index, slice_index_or}
+use Rattle.std.specs.Prelude.{◌≡◌, ◌↔◌, ℕ, zero, suc, ◌+◌, ◌*◌, ◌<◌, ◌≤◌, Bool, true, List, [], ◌∷◌, ◌++◌, Option, None, Some, if◌then◌else◌, length, slice_get, slice_index, slice_index_or}
 use Rattle.std.specs.Ordering.{is_lt}
 use Rattle.mem_op.specs.Limits.{operation_limit}
 use Rattle.line_stamps.specs.Ordered.{In}
@@ -26,9 +26,9 @@ abbrev pub first_to_fall : Option ℕ → ℕ → Option Record → Option Recor
 first_to_fall None at earlier later = if falls earlier later then Some at else None
 first_to_fall (Some i) at earlier later = Some i
 
--- a fault was found in the log
-abbrev pub IsFaulty : LaneParts → Type 0
-IsFaulty lane = (lane.falls ≢ None) ⊎ (lane.fault ≢ None)
+-- no fault was found in the log
+abbrev pub IsSound : LaneParts → Type 0
+IsSound lane = (lane.falls ≡ None) × (lane.fault ≡ None)
 
 -- where a log stands: before a record that was read, or at its end
 abbrev pub IsStage : ℕ → ℕ → Option (List ℕ) → Option (List ℕ) → KeptLog → List Record → Option Record → Option LogFault → Type 0
@@ -68,9 +68,9 @@ IsFrontNumber core (Some r) n = (n ≡ (r.ts * 4294967296 + r.rank) * 64 + core)
 abbrev pub NoFalls : List LaneParts → Type 0
 NoFalls lanes = (k : ℕ) (lane : LaneParts) → slice_get lanes k ≡ Some lane → lane.falls ≡ None
 
--- no log has a fault other than a fall
-abbrev pub NoFaults : List LaneParts → Type 0
-NoFaults lanes = (k : ℕ) (lane : LaneParts) → slice_get lanes k ≡ Some lane → lane.fault ≡ None
+-- no fault was found in any log
+abbrev pub AreSound : List LaneParts → Type 0
+AreSound lanes = (k : ℕ) (lane : LaneParts) → slice_get lanes k ≡ Some lane → IsSound lane
 
 -- the front of this core was taken, and no other log was touched
 pub record IsTaken (core : ℕ) (r : Record) (old new : List LaneParts) : Type 0 where
@@ -84,26 +84,32 @@ ComeBefore done lanes merged =
     (x : Entry) → In x done → (k : ℕ) (lane : LaneParts) (r : Record) → slice_get lanes k ≡ Some lane → lane.front ≡ Some r
     → is_lt (entry_cmp x (entry_at k (length (log_at merged k)) r)) ≡ true
 
-abbrev pub SomeFaulty : List LaneParts → Type 0
-SomeFaulty lanes = (k : ℕ) × ((lane : LaneParts) × (slice_get lanes k ≡ Some lane) × IsFaulty lane)
-
 -- all logs have ended
 abbrev pub AllEnded : List LaneParts → Type 0
 AllEnded lanes = (k : ℕ) (lane : LaneParts) → slice_get lanes k ≡ Some lane → lane.front ≡ None
 
--- the logs are merged up to and including these records; if no log falls, the records were done in the order of their keys
-pub record IsMerged {S : Type 0} (remaining : S → Option (List ℕ)) (failed : S → ℕ) (before after : List S) (lanes : List LaneParts) (numbers : List ℕ) (clean : Bool) (merged : List (List Record)) (done : List Entry) : Type 0 where
+-- the log of a core is merged up to and including these records, and its source stood at `first` and is now at `now`
+pub record IsLaneOf {S : Type 0} (remaining : S → Option (List ℕ)) (failed : S → ℕ) (before after : List S) (core : ℕ) (lane : LaneParts) (merged : List Record) : Type 0 where
+  pub first : S
+  pub now : S
+  pub is_first : slice_get before core ≡ Some first
+  pub is_now : slice_get after core ≡ Some now
+  pub at : IsLaneAt remaining failed core (length before) first now lane merged
+
+-- the first n logs are merged up to and including these records; `clean` says whether no fault was found in them
+pub record AreLanes {S : Type 0} (remaining : S → Option (List ℕ)) (failed : S → ℕ) (before after : List S) (n : ℕ) (lanes : List LaneParts) (numbers : List ℕ) (clean : Bool) (merged : List (List Record)) : Type 0 where
   pub readers : length after ≡ length before
-  pub many : length lanes ≡ length before
-  pub logs : length merged ≡ length before
-  pub fronts : length numbers ≡ length before
-  pub some : 0 < length before
   pub few : length before ≤ 64
-  pub lane : (k : ℕ) (b a : S) (l : LaneParts) → slice_get before k ≡ Some b → slice_get after k ≡ Some a → slice_get lanes k ≡ Some l → IsLaneAt remaining failed k (length before) b a l (log_at merged k)
+  pub logs : length merged ≡ length before
+  pub many : length lanes ≡ n
+  pub fronts : length numbers ≡ n
+  pub lane : (k : ℕ) (l : LaneParts) → slice_get lanes k ≡ Some l → IsLaneOf remaining failed before after k l (log_at merged k)
   pub number : (k : ℕ) (l : LaneParts) → slice_get lanes k ≡ Some l → IsFrontNumber k l.front (slice_index numbers k)
+  pub clean_is : (clean ≡ true) ↔ AreSound lanes
+
+-- all logs are merged so far; if no log falls, the records were done in the order of their keys
+pub record IsMerged {S : Type 0} (remaining : S → Option (List ℕ)) (failed : S → ℕ) (before after : List S) (lanes : List LaneParts) (numbers : List ℕ) (clean : Bool) (merged : List (List Record)) (done : List Entry) : Type 0 where
+  pub all : AreLanes remaining failed before after (length before) lanes numbers clean merged
   pub total : length done ≡ length (entries merged)
   pub by_key_so_far : NoFalls lanes → done ≡ by_key merged
   pub come_before : NoFalls lanes → ComeBefore done lanes merged
-  pub faulty : clean ≡ false → SomeFaulty lanes
-  pub steady : clean ≡ true → NoFalls lanes
-  pub whole : clean ≡ true → NoFaults lanes

@@ -5,8 +5,7 @@ use Rattle.verdict.specs.VerdictOf.{verdict_of}
 use Rattle.verdict.proofs.Soundness.{bad_count_answers}
 use Rattle.log_file.proofs.Devices.{told}
 use Rattle.log_file.proofs.Sets.{each_tells}
-use Rattle.merge_judge.proofs.Judged.{no_memory, nothing_after}
-use Rattle.merge_judge.proofs.MergeSoFar.{lacks_end}
+use Rattle.merge_judge.proofs.Judged.{lacks_end, no_memory, nothing_after}
 use Rattle.merge_judge.proofs.WritingFacts.{appends_none}
 use Rattle.merge_judge.proofs.judging.merge_judge.Goals as goal
 

@@ -1,6 +1,6 @@
 -- The records so far were merged, and the order of those without a fault is written.
 use Rattle.std.proofs.Common.{◌-◌, ◌^◌}
-use Rattle.merge_judge.proofs.MergeSoFar.{MergeSoFar}
+use Rattle.merge_judge.proofs.Judged.{MergeSoFar}
 use Rattle.merge_judge.proofs.judging.merged.Given as goal
 
 abbrev pub invariant-loop-entry : goal.invariant-loop-entry

@@ -11,16 +11,6 @@ use Rattle.merge_judge.specs.Answer.{IsQuietUpTo, judged}
 use Rattle.merge_judge.specs.declared.merge_fault.MergeFault.{MergeFault}
 use Rattle.merge_judge.proofs.judging.merged_verdict.Goals as goal
 
-pub returns-in-Ok-clause-exact : goal.returns-in-Ok-clause-exact
-returns-in-Ok-clause-exact g c =
-    let b = c.in-Ok.ensures.exact in
-    (b.texts, b.tells, b.answers)
-
-pub returns-in-Err-Judge-clause-exact : goal.returns-in-Err-Judge-clause-exact
-returns-in-Err-Judge-clause-exact g c =
-    let b = c.in-Err-Judge.ensures.exact in
-    (b.texts, b.tells, subst (λ (e : MergeFault). IfSome (judged (Err e)) (IsAnswerTo b.texts)) c.in-Err-Judge.field-0-is b.answers)
-
 pub returns-in_err-check_counts-clause-exact : goal.returns-in_err-check_counts-clause-exact
 returns-in_err-check_counts-clause-exact g c =
     let p = err_from_is_err_and c.from_residual.result c.from_residual.ensures.1 in
@@ -28,10 +18,3 @@ returns-in_err-check_counts-clause-exact g c =
     let bad = c.in_err-check_counts.ensures.err in
     let texts = map (λ reader. told (g.S.ByteSource.remaining reader)) c.args.readers.now in
     rw (p.1, p.2) (texts, each_tells g.S.ByteSource.remaining c.args.readers.now, bad_count_answers verdict_of texts fault bad)
-
-pub returns-in-Ok-clause-quiet : goal.returns-in-Ok-clause-quiet
-returns-in-Ok-clause-quiet g c = c.in-Ok.ensures.exact.quiet
-
-pub returns-in-Err-Judge-clause-quiet : goal.returns-in-Err-Judge-clause-quiet
-returns-in-Err-Judge-clause-quiet g c =
-    subst (λ (e : MergeFault). IsQuietUpTo g.S.ByteSource.failed c.args.readers.now c.merged.new.readers (judged (Err e))) c.in-Err-Judge.field-0-is c.in-Err-Judge.ensures.exact.quiet

@@ -1,18 +1,12 @@
 -- One log after another.
-use Rattle.std.proofs.Common.{◌≡◌, [], Some, length, arith, ap, subst, sym, refl, ◌∙◌, ◌⊎◌, inl, inr}
-use Rattle.std.specs.Prelude.{Option, get_or, slice_get, false, true, None}
+use Rattle.std.proofs.Common.{◌≡◌, [], Some, length, arith, ap, subst, refl, ◌∙◌}
+use Rattle.std.specs.Prelude.{◌&&◌, Option, get_or, slice_get}
 use Rattle.std.proofs.lemmas.Option.{slice_get_read}
 use Rattle.log_record.specs.declared.record.Record.{Record}
-use Rattle.merge_judge.specs.inner.Lanes.{IsFaulty, IsFrontNumber, IsLaneAt}
+use Rattle.merge_judge.specs.inner.Lanes.{IsFrontNumber, IsLaneAt}
+use Rattle.merge_judge.proofs.Merged.{both_true}
 use Rattle.merge_judge.proofs.Opening.{all_opened, opened_more, opened_none}
 use Rattle.merge_judge.proofs.merge.Merge.new.Goals as goal
-use Rattle.merge_judge.proofs.merge.Merge.new.Goals.{then-clean, else-clean}
-
-pub loop-core-init : goal.loop-core-init
-loop-core-init g c = record {
-  opened = rw (c.new-lanes.ensures.items, c.new-numbers.ensures.items) (opened_none g.S.RecordSource.remaining g.S.RecordSource.failed c.args.readers.now);
-  cores = refl;
-}
 
 pub loop-core-preserved : goal.loop-core-preserved
 loop-core-preserved g c =
@@ -25,14 +19,8 @@ loop-core-preserved g c =
     let source_is : slice_get readers core ≡ Some source = slice_get_read readers (length readers) core c.index-readers-core.result refl (omega (arith, loop.auto.readers, c.loop-core-test.true)) c.index-readers-core.is ∙ ap (λ s. Some s) c.index-readers-core.is in
     let at : IsLaneAt g.S.RecordSource.remaining g.S.RecordSource.failed core (length c.args.readers.now) source c.new.new.source lane [] =
     subst (λ n. IsLaneAt g.S.RecordSource.remaining g.S.RecordSource.failed n (length c.args.readers.now) source c.new.new.source lane []) c.at.ensures c.in_ok-lane.ensures in
-    let found : c.if-clean.clean ≡ false → (loop.clean ≡ false) ⊎ IsFaulty lane =
-    (λ h. elim c.if-clean.branch [ then-clean w ↦ inr (w.is_clean-clean.ensures.found (sym w.clean-is ∙ h)) | else-clean w ↦ inl w.if-clean.false ]) in
-    let kept : c.if-clean.clean ≡ true → (loop.clean ≡ true) × (lane.falls ≡ None) × (lane.fault ≡ None) =
-    (λ h. elim c.if-clean.branch [
-      | then-clean w ↦ (w.if-clean.true, w.is_clean-clean.ensures.steady (sym w.clean-is ∙ h), w.is_clean-clean.ensures.whole (sym w.clean-is ∙ h))
-      | else-clean w ↦ absurd (let a : loop.clean ≡ true = sym w.clean-is ∙ h in let b : loop.clean ≡ false = w.if-clean.false in cc)
-    ]) in
-    let more = opened_more inv.opened source c.new.new.source source_is lane c.front_number.result c.if-clean.clean at (subst (λ (o : Option Record). IsFrontNumber core o c.front_number.result) c.front.ensures c.front_number.ensures) found kept in
+    let more = opened_more inv.opened source c.new.new.source source_is lane c.front_number.result (loop.clean && c.is_clean-clean.result) at (subst (λ (o : Option Record). IsFrontNumber core o c.front_number.result) c.front.ensures c.front_number.ensures)
+    (both_true loop.clean c.is_clean-clean.result c.is_clean-clean.ensures) in
     record {
       opened = rw (c.in_ok-push-2.ensures.items, c.in_ok-push.ensures.items) more;
       cores = refl;
@@ -41,4 +29,4 @@ loop-core-preserved g c =
 pub returns : goal.returns
 returns g c =
     let loop = c.loop-core in
-    rw c.in_ok-fronts.ensures (all_opened loop.invariant.opened (omega (arith, c.loop-core-test.false, loop.auto.core-end)) c.requires.some c.requires.few)
+    rw c.in_ok-fronts.ensures (all_opened loop.invariant.opened (omega (arith, c.loop-core-test.false, loop.auto.core-end)))

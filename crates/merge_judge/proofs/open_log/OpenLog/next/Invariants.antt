@@ -5,14 +5,12 @@ use Rattle.merge_judge.specs.inner.Following.{Follows}
 use Rattle.merge_judge.proofs.Following.{HasRead}
 use Rattle.merge_judge.proofs.open_log.OpenLog.next.Given as goal
 
-abbrev pub invariant-loop-logged : goal.invariant-loop-logged
-invariant-loop-logged g l = record {
-  core : l.self.reader.core ≡ l.fn.self.reader.core;
-  cores : l.self.reader.cores ≡ l.fn.self.reader.cores;
+abbrev pub invariant-reading : goal.invariant-reading
+invariant-reading g l = record {
   read : HasRead l.self l.reads;
   follows : (core cores : ℕ) (first : Option (List ℕ)) (records : List Record) → Follows core cores first (g.S.ByteSource.remaining l.fn.source) l.fn.self records → Follows core cores first (g.S.ByteSource.remaining l.source) l.self records;
   quiet : g.S.ByteSource.failed l.source ≡ g.S.ByteSource.failed l.fn.source;
 }
 
-abbrev pub decreases-loop-logged : goal.decreases-loop-logged
-decreases-loop-logged g l = 2 ^ 64 - l.reads
+abbrev pub decreases-reading : goal.decreases-reading
+decreases-reading g l = 2 ^ 64 - l.reads

@@ -9,9 +9,4 @@ returns-then-is_store-clause-holds c done h =
     let stores : is_store c.args.entry.now.logged.act ≡ true = sym c.is_store.ensures ∙ c.if-is_store.true in
     let addr : c.get-addr.result ≡ c.args.entry.now.logged.addr = c.get-addr.ensures.value ∙ c.addr.ensures in
     let within : c.get-addr.result < 65536 = omega (arith, c.get-addr.ensures.value, c.get-addr.ensures.in_range) in
-    holds_store c.args.self.now.values.items c.args.self.now.sources.items done c.args.entry.now c.get-addr.result c.value.result c.id.result stores addr within c.value.ensures c.id.ensures h
-
-pub returns-else-is_store-clause-holds : goal.returns-else-is_store-clause-holds
-returns-else-is_store-clause-holds c done h =
-    let stores : is_store c.args.entry.now.logged.act ≡ false = sym c.is_store.ensures ∙ c.if-is_store.false in
-    holds_unwritten c.args.self.now.values.items c.args.self.now.sources.items done c.args.entry.now stores h
+    rw (c.value.ensures, c.id.ensures) (holds_store c.args.self.now.values.items c.args.self.now.sources.items done c.args.entry.now h c.get-addr.result addr within stores)
