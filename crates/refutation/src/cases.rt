@@ -80,6 +80,7 @@ impl Cases {
             return Ok(None);
         };
         facts.truncate(case.kept);
+        // A call of `push` has no proof if the item is an enum whose parts have models.
         facts.extend_from_slice(&[case.fact])?;
         Ok(Some(Cases { facts, waiting }))
     }
