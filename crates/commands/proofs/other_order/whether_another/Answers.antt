@@ -13,21 +13,21 @@ use Rattle.commands.proofs.other_order.whether_another.Goals as goal
 pub sourced_trace-requires-clause-short : goal.sourced_trace-requires-clause-short
 sourced_trace-requires-clause-short g c =
     let (logs, are) = c.requires in
-    subst (λ (vs : List (Vec Record)). All (λ log. vec_len log ≤ operation_limit) vs) (sym c.as_slice.ensures.value)
+    subst (λ (vs : List (Vec Record)). All (λ log. vec_len log ≤ operation_limit) vs) (sym c.as_slice-logs.ensures.value)
     (short_logs c.in_ok-logs.logs.items logs c.args.basis.now c.args.cores (c.in_ok-logs.ensures logs are) are)
 
 pub trace_of-requires-clause-short : goal.trace_of-requires-clause-short
 trace_of-requires-clause-short g c =
     let (logs, are) = c.requires in
-    subst (λ (vs : List (Vec Record)). All (λ log. vec_len log ≤ operation_limit) vs) (sym c.as_slice-2.ensures.value)
+    subst (λ (vs : List (Vec Record)). All (λ log. vec_len log ≤ operation_limit) vs) (sym c.as_slice-logs.ensures.value)
     (short_logs c.in_ok-logs.logs.items logs c.args.basis.now c.args.cores (c.in_ok-logs.ensures logs are) are)
 
 pub returns : goal.returns
 returns g c = λ logs are.
     let same : record_lists c.in_ok-logs.logs.items ≡ logs = c.in_ok-logs.ensures logs are in
     let by_sources : c.in_ok-sourced.sourced ≡ sourced_operations logs =
-    c.in_ok-sourced.ensures ∙ ap (λ (vs : List (Vec Record)). sourced_operations (record_lists vs)) c.as_slice.ensures.value ∙ ap sourced_operations same in
+    c.in_ok-sourced.ensures ∙ ap (λ (vs : List (Vec Record)). sourced_operations (record_lists vs)) c.as_slice-logs.ensures.value ∙ ap sourced_operations same in
     let by_words : c.in_ok-trace.trace ≡ operations_of logs =
-    c.in_ok-trace.ensures ∙ ap (λ (vs : List (Vec Record)). operations_of (record_lists vs)) c.as_slice-2.ensures.value ∙ ap operations_of same in
+    c.in_ok-trace.ensures ∙ ap (λ (vs : List (Vec Record)). operations_of (record_lists vs)) c.as_slice-logs.ensures.value ∙ ap operations_of same in
     subst (λ (cores : List (List Operation)). IfOk c.whether_by_sources.result (λ text. TellsSourced (sourced_operations logs) cores (string_bytes text))) by_words
     (subst (λ (sourced : List (List Operation)). IfOk c.whether_by_sources.result (λ text. TellsSourced sourced c.in_ok-trace.trace (string_bytes text))) by_sources c.whether_by_sources.ensures)
