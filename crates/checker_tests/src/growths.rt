@@ -48,7 +48,8 @@ fn a_set_of_logs(rt: HostRuntime) -> Result<(), Fail> {
     );
     let order = [id(0, 0), id(0, 1), id(1, 0), id(1, 1)];
     assert!(rt; replay_order(alloc, &order, &logs)?);
-    let trace = Trace::of(alloc, accesses_of(alloc, &logs)?)?;
+    let written = order.iter().map(|id| id.core).collect(alloc)?;
+    let trace = Trace::of(alloc, accesses_of(alloc, &logs)?)?.written_by(written);
     assert!(rt; replays(alloc, trace.cores(), &order)?);
     let answer = search(alloc, &trace, 0)?;
     assert!(rt; matches!(&answer, Answer::Order(_)));
