@@ -54,8 +54,7 @@ pub(crate) fn keyed(
     }
 }
 
-/// The trace of logs. Err if memory was refused.
-
+/// The trace of logs, written in the order of their keys. Err if memory was refused.
 pub(crate) fn trace_of(alloc: Global, logs: &[Vec<Record>]) -> Result<Trace, AllocError>
     requires few { length logs.now ≤ 64 }
     requires short { All (λ log. vec_len log ≤ operation_limit) logs.now }
