@@ -38,47 +38,6 @@ conforms-state p xs h = (h.0, state_after-reached p xs h.0 h.1 (ended-rests p h.
 pub state-conforms : (p : List Instruction) (xs : List Operation) (t : State) → IsProgram p → state_after p xs ≡ Some t → next_op p t ≡ None → Conforms p xs
 state-conforms p xs t program h e = (t, state_after-reaches p xs t h, rests-ended p t (state_after-rests p xs t program h) e)
 
--- what a core does at an index of a log along which it runs
-pub record RunsAt (p : List Instruction) (s : State) (xs : List Operation) (n : ℕ) (x : Operation) : Type 0 where
-  pub state : State
-  -- the state before
-  pub before : run_from p s (take n xs) ≡ Some state
-  pub next : next_op p state ≡ Some (op_of x)
-  -- the state after
-  pub behind : run_from p s (take (suc n) xs) ≡ Some (answered p (word_answered x) state)
-
-pub runs_at : (p : List Instruction) (s t : State) (xs : List Operation) (n : ℕ) (x : Operation) → run_from p s xs ≡ Some t → slice_get xs n ≡ Some x → RunsAt p s xs n x
-runs_at p s t [] n x h e = cc
-runs_at p s t (y ∷ xs) zero x h e = go (is_issued (next_op p s) y) refl h
-  where
-    same : y ≡ x
-    same = cc
-
-    go : (b : Bool) → is_issued (next_op p s) y ≡ b → (if b then run_from p (answered p (word_answered y) s) xs else None) ≡ Some t → RunsAt p s (y ∷ xs) zero x
-    go true is k =
-        let next : next_op p s ≡ Some (op_of y) = issued_op (next_op p s) y is in
-        record {
-          state = s;
-          before = refl;
-          next = next ∙ ap (λ o. Some (op_of o)) same;
-          behind = run_from-next p s y [] next ∙ ap (λ o. Some (answered p (word_answered o) s)) same;
-        }
-    go false is k = cc
-runs_at p s t (y ∷ xs) (suc n) x h e = go (is_issued (next_op p s) y) refl h (λ k. runs_at p (answered p (word_answered y) s) t xs n x k e)
-  where
-    go : (b : Bool) → is_issued (next_op p s) y ≡ b → (if b then run_from p (answered p (word_answered y) s) xs else None) ≡ Some t →
-        (run_from p (answered p (word_answered y) s) xs ≡ Some t → RunsAt p (answered p (word_answered y) s) xs n x) → RunsAt p s (y ∷ xs) (suc n) x
-    go true is k step =
-        let r = step k in
-        let next : next_op p s ≡ Some (op_of y) = issued_op (next_op p s) y is in
-        record {
-          state = r.state;
-          before = run_from-next p s y (take n xs) next ∙ r.before;
-          next = r.next;
-          behind = run_from-next p s y (take (suc n) xs) next ∙ r.behind;
-        }
-    go false is k step = cc
-
 -- ---- faults
 
 -- the fault where the log ends: what is next is one

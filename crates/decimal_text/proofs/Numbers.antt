@@ -40,13 +40,6 @@ as_u64_some n lt = cond_below n (2 ^ 64) (Some n) None lt
 pub as_u64_none : (n : ℕ) → 2 ^ 64 ≤ n → None ≡ as_u64 n
 as_u64_none n le = cond_above n (2 ^ 64) (Some n) None None le refl
 
-pub as_u64_is : (n a : ℕ) → Some a ≡ as_u64 n → a ≡ n
-as_u64_is n a e =
-    elim (cases_lt n (2 ^ 64)) [
-      | inl fits ↦ let joined : Some a ≡ Some n = e ∙ sym (as_u64_some n fits) in cc
-      | inr large ↦ let joined : Some a ≡ None = e ∙ sym (as_u64_none n large) in absurd cc
-    ]
-
 -- ---- the digits at the front
 
 pub onward_digit : (n d : ℕ) (bs : List ℕ) → is_digit d ≡ true → onward n (d ∷ bs) ≡ onward (n * 10 + (d - 48)) bs

@@ -1,7 +1,7 @@
 -- The ids of a set by key keep program order, where no core's (ts, rank) falls.
 use Rattle.std.specs.Prelude.{◌≡◌, ℕ, zero, suc, ◌+◌, ◌<◌, ◌≤◌, Bool, true, false, List, [], unwrap_or, Some, slice_get}
 use Rattle.std.proofs.Common.{◌-◌, inl, inr, arith, get_or}
-use Rattle.std.specs.Ordering.{nat_cmp, is_lt}
+use Rattle.std.specs.Ordering.{is_lt}
 use Rattle.std.proofs.lemmas.Bool.{cases_lt}
 use Rattle.std.proofs.lemmas.Bool.Decides.{nat_tests}
 use Rattle.std.proofs.lemmas.Option.{slice_get_within, slice_get-get_or}
@@ -34,9 +34,6 @@ never_falls logs none c i (suc k) log r s place at_i at_k =
     let id : OpId = record { core = c; index = suc (i + k) } in
     let level = none (at id s) (entry_of_record logs id s (grind arith)) in
     grind (arith, nat_tests)
-
-pub less_index : (i j : ℕ) → is_lt (nat_cmp i j) ≡ true → i < j
-less_index i j h = grind (arith, nat_tests)
 
 -- of two entries of a core the one of lesser key has the lesser index
 pub keeps_order : (logs : List (List Record)) → NoCoreFault logs → (a b : Entry) → In a (entries logs) → In b (entries logs) → is_lt (entry_cmp a b) ≡ true → a.id.core ≡ b.id.core → a.id.index < b.id.index
