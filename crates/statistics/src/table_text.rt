@@ -175,7 +175,7 @@ pub fn print_statistics(
     cores: usize,
     slices: usize,
 ) -> Result<Vec<u8>, AllocError>
-    requires { cores ≤ 64 }
+    requires { length (take cores units.now) ≤ 64 }
     ensures { IfOk result (λ made. made.items
         ≡ text.statistics_text (map core_counts (take cores units.now)) (map slice_counts (take slices managers.now))) }
 {
