@@ -34,12 +34,12 @@ impl AddressIndex {
         let mut start = 0;
         for number in 1..count {
             if let Some(entry) = entries.get(size.saturating_mul(number)) {
-                let end = entry.addr().get();
+                let end = entry.logged.addr.get();
                 spans.push(AddrSpan { start, end })?;
                 start = end;
             }
         }
-        let end = last.addr().get() + 1;
+        let end = last.logged.addr.get() + 1;
         spans.push(AddrSpan { start, end })?;
         Ok(spans)
     }

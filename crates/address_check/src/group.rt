@@ -25,7 +25,7 @@ fn writes(act: &Act) -> bool
 pub fn is_store(entry: &Entry) -> bool
     ensures { result ≡ is_store entry.now.logged.act }
 {
-    writes(&entry.act())
+    writes(&entry.logged.act())
 }
 
 /// The rule that a read of a word breaks, with this source, if its address has the word `word`, which
@@ -53,7 +53,7 @@ fn broken_rule(source: &Source, read: Word, right: Option<&Entry>) -> Option<Add
     ensures { result ≡ broken_rule source.now read (option_copied right.entry) }
 {
     match right {
-        Some(store) => broken_by(source, read, &Source::Store(store.id()), store.value()),
+        Some(store) => broken_by(source, read, &Source::Store(store.id), store.logged.value),
         None => broken_by(source, read, &Source::Init, 0),
     }
 }
@@ -65,9 +65,9 @@ fn entry_rule(entry: &Entry, act: &Act, last: Option<&Entry>) -> Option<AddressR
     ensures { fault_by entry.now result
         ≡ act_fault entry.now.logged.act entry.now (at_its_address entry.now (option_copied last.entry)) }
 {
-    let right = last.filter(|store| store.addr() == entry.addr());
+    let right = last.filter(|store| store.logged.addr == entry.logged.addr);
     match act {
-        Act::Load(source) => broken_rule(source, entry.value(), right),
+        Act::Load(source) => broken_rule(source, entry.logged.value, right),
         Act::Store => None,
         Act::Swap(source, read) => broken_rule(source, *read, right),
     }
@@ -82,7 +82,7 @@ pub(crate) fn part_fault(part: &[Entry]) -> Option<AddressFault>
     let mut last = None;
     for entry in part {
         // Making the act takes some work, so it is done once.
-        let act = entry.act();
+        let act = entry.logged.act();
         if let Some(rule) = entry_rule(entry, &act, last) {
             let key = entry.key();
             least = lesser_fault(least, Some(AddressFault { key, rule }));

@@ -29,7 +29,8 @@ use Rattle.flat_replay.specs.Accesses.{operation_lists}
 use Rattle.refutation.proofs.Runs.{after-is}
 use Rattle.trace.specs.Growing.{IsOfSize}
 use Rattle.commands.proofs.LogTraces.{same_size, size_of_logs}
-use Rattle.commands.specs.Sources.{may_give, no_number, number_read, numbered, numbered_by, numbered_from, source_number, sourced_operations, store_number, stores}
+use Rattle.commands.specs.Sources.{may_give, no_number, number_read, numbered, numbered_by, numbered_from, sourced_operations, stores}
+use Rattle.log_record.specs.SourceNumbers.{source_number, store_number}
 
 -- ---- one more
 

@@ -1,8 +1,9 @@
 -- The operations of a set with sources in place of their words. Each store gets a number of its own, and stores that. A load or a swap reads the number of
 -- the store that it names, or 0 if it names `init`; if its word can't come from there, it reads a number that no store has.
-use Rattle.std.specs.Prelude.{◌+◌, ◌*◌, ◌==◌, ◌&&◌, ◌≤◌, All, ℕ, suc, Bool, false, List, [], ◌∷◌, if◌then◌else◌, length, map}
+use Rattle.std.specs.Prelude.{◌==◌, ◌&&◌, ◌≤◌, All, ℕ, suc, Bool, false, List, [], ◌∷◌, if◌then◌else◌, length, map}
 use Rattle.std.specs.Option.{option_map_or}
 use Rattle.log_record.specs.Entries.{core_entries, operations_of}
+use Rattle.log_record.specs.SourceNumbers.{source_number, store_number}
 use Rattle.log_record.specs.declared.act.Act.{Act}
 use Rattle.log_record.specs.declared.act.Act.TheVariants.{Load, Store, Swap}
 use Rattle.log_record.specs.declared.record.Entry.{Entry}
@@ -12,14 +13,6 @@ use Rattle.mem_op.specs.Limits.{operation_limit}
 use Rattle.mem_op.specs.declared.id.OpId.{OpId}
 use Rattle.mem_op.specs.declared.id.Source.{Source}
 use Rattle.mem_op.specs.declared.id.Source.TheVariants.{Init, Store as From}
-
--- the number of the store of an id: no other store has it, and none has 0
-abbrev pub store_number : OpId → ℕ
-store_number id = 1 + id.core * operation_limit + id.index
-
-abbrev pub source_number : Source → ℕ
-source_number Init = 0
-source_number (From id) = store_number id
 
 -- a number that no store has
 abbrev pub no_number : ℕ

@@ -63,7 +63,7 @@ fn logs_in(
         → IfOk result (λ read. record_lists read.items ≡ logs) }
 {
     let mut entries = Vec::from_slice(alloc, index.all())?;
-    entries.sort_unstable_by_key(|entry| entry.id().index);
+    entries.sort_unstable_by_key(|entry| entry.id.index);
     own_logs(alloc, entries.as_slice(), cores)
 }
 
@@ -84,8 +84,8 @@ fn own_log(alloc: Global, entries: &[Entry], core: u64) -> Result<Vec<Record>, A
 {
     let mut log = Vec::new(alloc);
     for entry in entries {
-        if entry.id().core.get() == core {
-            log.push(entry.logged())?;
+        if entry.id.core.get() == core {
+            log.push(entry.logged)?;
         }
     }
     Ok(log)

@@ -7,33 +7,13 @@ ghost use Rattle.mem_op.specs.Limits.{operation_limit};
 ghost use Rattle.commands.specs.Sources as sources;
 
 use super::log_traces::keyed;
-use log_record::{Act, Record};
+use log_record::{Act, Record, source_number, store_number};
 use mem_op::{CoreId, OpId, OpIndex, Source, Word};
 use std::alloc::{AllocError, Global};
 use trace::{Access, Address, Trace};
 
-/// How many operations a core has at most.
-const OPERATION_LIMIT: u64 = 1_048_576;
-
 /// A number that no store has.
 const NO_NUMBER: Word = u64::MAX;
-
-/// The number of the store of an id: no other store has it, and none has 0.
-fn store_number(id: &OpId) -> Word
-    ensures { result ≡ sources.store_number id.now }
-{
-    1 + id.core.get() * OPERATION_LIMIT + id.index.get()
-}
-
-/// The number of a source: 0 is that of the initial 0.
-fn source_number(source: &Source) -> Word
-    ensures { result ≡ sources.source_number source.now }
-{
-    match source {
-        Source::Init => 0,
-        Source::Store(id) => store_number(id),
-    }
-}
 
 /// Whether a read of this word at this address may have it from a source: the initial 0, or an operation that stored it there.
 fn may_give(worded: &Trace, source: &Source, addr: Address, word: Word) -> bool

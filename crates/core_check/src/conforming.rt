@@ -28,7 +28,7 @@ pub fn conforms<L: Logged>(program: &Program, log: &[L]) -> Option<usize>
     let mut state = ProgramState::new(program);
     for (i, item) in log.iter().enumerate() {
         let logged = item.logged();
-        if !is_issued(&state.next_op(program), &logged) {
+        if !is_issued(&state.next_op(program), logged) {
             return Some(i);
         }
         state.answer(program, logged.word_answered());

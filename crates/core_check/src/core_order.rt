@@ -6,6 +6,7 @@ ghost use Rattle.core_program.specs.Least.{IsLeastWhere};
 ghost use Rattle.core_check.specs.CoreOrder.{is_core_fault, stamp_cmp};
 
 use super::logged::Logged;
+use log_record::Record;
 
 /// The least index above 0 of a log at which `(ts, rank)` is less than at the index before, or none
 /// if it never falls. Takes no memory.
@@ -14,16 +15,16 @@ pub fn core_fault<L: Logged>(log: &[L]) -> Option<usize>
     ensures within { IfSome result (λ i. i < length (L.records_of log.now)) }
 {
     for i in 1..log.len() {
-        if falls(&log[i - 1], &log[i]) {
+        if falls(log[i - 1].logged(), log[i].logged()) {
             return Some(i);
         }
     }
     None
 }
 
-// Whether `(ts, rank)` of the later item is less than that of the earlier.
-fn falls<L: Logged>(earlier: &L, later: &L) -> bool
-    ensures { result ≡ is_lt (stamp_cmp (L.record_of later.now) (L.record_of earlier.now)) }
+/// Whether `(ts, rank)` of the later record is less than that of the earlier.
+pub fn falls(earlier: &Record, later: &Record) -> bool
+    ensures { result ≡ is_lt (stamp_cmp later.now earlier.now) }
 {
-    later.stamp_and_rank() < earlier.stamp_and_rank()
+    (later.ts, later.rank) < (earlier.ts, earlier.rank)
 }

@@ -8,7 +8,7 @@ mod laws;
 mod logged;
 
 pub use conforming::conforms;
-pub use core_order::core_fault;
+pub use core_order::{core_fault, falls};
 pub use fault::{CoreRule, RuleFault};
 pub use laws::{
     core_faults_are_totally_ordered, order_faults_are_where_logs_fall,

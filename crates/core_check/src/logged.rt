@@ -3,7 +3,6 @@
 ghost use Rattle.std.specs.Prelude.{◌≡◌, ℕ, List, length, map, option_map, slice_get};
 ghost use Rattle.log_record.specs.declared.record.Record.{Record};
 
-use line_stamps::{Rank, Stamp};
 use log_record::{Entry, Record};
 
 /// An item of a log: a record, with or without its id.
@@ -15,13 +14,8 @@ pub trait Logged {
     ghost records_of: { List Self → List Record };
 
     /// The record.
-    fn logged(&self) -> Record
-        ensures { result ≡ record_of self.now };
-
-    /// The record's stamp and rank, by which a log is ordered.
-    fn stamp_and_rank(&self) -> (Stamp, Rank)
-        ensures stamp { result.0 ≡ (record_of self.now).ts }
-        ensures rank { result.1 ≡ (record_of self.now).rank };
+    fn logged(&self) -> &Record
+        ensures { result.now ≡ record_of self.now };
 
     // A list has as many records as items.
     ghost as_many: { (items : List Self) → length (records_of items) ≡ length items };
@@ -40,12 +34,8 @@ impl Logged for Record {
 
     ghost records_of = { λ log. log };
 
-    fn logged(&self) -> Record {
-        *self
-    }
-
-    fn stamp_and_rank(&self) -> (Stamp, Rank) {
-        (self.ts, self.rank)
+    fn logged(&self) -> &Record {
+        self
     }
 
     ghost as_many = { λ log. refl };
@@ -61,13 +51,8 @@ impl Logged for Entry {
 
     ghost records_of = { λ log. map (λ e. e.logged) log };
 
-    fn logged(&self) -> Record {
-        Entry::logged(self)
-    }
-
-    fn stamp_and_rank(&self) -> (Stamp, Rank) {
-        let key = self.key();
-        (key.ts, key.rank)
+    fn logged(&self) -> &Record {
+        &self.logged
     }
 
     ghost as_many = { λ log. length-map log (λ e. e.logged) };

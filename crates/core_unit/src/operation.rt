@@ -12,7 +12,7 @@ ghost use Rattle.core_unit.specs.inner.Look.{IsLook};
 use super::unit::CoreUnit;
 use lease_rule::{Config, self_increment};
 use line_stamps::{Rank, Stamp, StampFault};
-use log_record::{Act, Record};
+use log_record::{Act, PackedAct, Record};
 use mem_op::{Addr, Op, OpId, Source, Word};
 use private_cache::{PrivateCache, Read};
 
@@ -46,10 +46,17 @@ pub(crate) fn record_of(op: &Op, value: Word, source: Source, stamp: Stamp, rank
     ensures { (held : Held) → result ≡ record_of op.now
         (record { value = value; source = source; held = held; stamp = stamp; rank = rank }) }
 {
-    match op {
-        Op::Load(addr) => Record::new(value, stamp, rank, *addr, &Act::Load(source)),
-        Op::Store(addr, word) => Record::new(*word, stamp, rank, *addr, &Act::Store),
-        Op::Swap(addr, word) => Record::new(*word, stamp, rank, *addr, &Act::Swap(source, value)),
+    let (addr, value, act) = match op {
+        Op::Load(addr) => (addr, value, Act::Load(source)),
+        Op::Store(addr, word) => (addr, *word, Act::Store),
+        Op::Swap(addr, word) => (addr, *word, Act::Swap(source, value)),
+    };
+    Record {
+        value,
+        ts: stamp,
+        act: PackedAct::of(act),
+        rank,
+        addr: *addr,
     }
 }
 

@@ -14,7 +14,7 @@ use mem_op::{OpId, Source, Word};
 pub fn named_id(entry: &Entry) -> Option<OpId>
     ensures { result ≡ named_id entry.now.logged.act }
 {
-    match &entry.act() {
+    match &entry.logged.act() {
         Act::Load(Source::Store(id)) | Act::Swap(Source::Store(id), _) => Some(*id),
         Act::Load(Source::Init) | Act::Swap(Source::Init, _) | Act::Store => None,
     }
@@ -25,7 +25,7 @@ fn broken_with(source: &Source, read: Word, store: Option<&Entry>) -> Option<Add
     ensures { result ≡ broken_rule source.now read (option_copied store.entry) }
 {
     match store {
-        Some(store) => broken_by(source, read, &Source::Store(store.id()), store.value()),
+        Some(store) => broken_by(source, read, &Source::Store(store.id), store.logged.value),
         None => broken_by(source, read, &Source::Init, 0),
     }
 }
@@ -34,8 +34,8 @@ fn broken_with(source: &Source, read: Word, store: Option<&Entry>) -> Option<Add
 pub(crate) fn rule_with(entry: &Entry, store: Option<&Entry>) -> Option<AddressRule>
     ensures { result ≡ rule_with entry.now (option_copied store.entry) }
 {
-    match &entry.act() {
-        Act::Load(source) => broken_with(source, entry.value(), store),
+    match &entry.logged.act() {
+        Act::Load(source) => broken_with(source, entry.logged.value, store),
         Act::Store => None,
         Act::Swap(source, read) => broken_with(source, *read, store),
     }
@@ -43,7 +43,7 @@ pub(crate) fn rule_with(entry: &Entry, store: Option<&Entry>) -> Option<AddressR
 
 /// The name of an operation's kind.
 pub fn kind_name(entry: &Entry) -> &'static str {
-    match &entry.act() {
+    match &entry.logged.act() {
         Act::Store => "store",
         Act::Load(_) => "load",
         Act::Swap(..) => "swap",

@@ -43,7 +43,7 @@ pub(crate) fn culprit(
     ensures { result ≡ culprit group.now place load.now named.now }
 {
     match named {
-        Some(store) if is_store(store) && store.addr() == load.addr() => {
+        Some(store) if is_store(store) && store.logged.addr == load.logged.addr => {
             first_over(group, place, Some(store))
         }
         None if named_id(load).is_none() => first_over(group, place, None),
@@ -55,7 +55,7 @@ pub(crate) fn culprit(
 fn has_word(load: &Entry, entry: &Entry) -> bool
     ensures { result ≡ has_word load.now entry.now }
 {
-    is_store(entry) && entry.value() == load.logged().word_answered()
+    is_store(entry) && entry.logged.value == load.logged.word_answered()
 }
 
 /// The last store before a place that left the word which a load read.

@@ -28,7 +28,7 @@ fn state_after(program: &Program, log: &[Entry]) -> ProgramState
         if state.next_op(program).is_none() {
             break;
         }
-        state.answer(program, item.logged().word_answered());
+        state.answer(program, item.logged.word_answered());
     }
     state
 }

@@ -11,14 +11,17 @@ use verdict::LogSet;
 
 /// The rule that an operation breaks, if this is the last store before it by address and then by key.
 fn rule_after(entry: &Entry, last: Option<&Entry>) -> Option<AddressRule> {
-    rule_with(entry, last.filter(|store| store.addr() == entry.addr()))
+    rule_with(
+        entry,
+        last.filter(|store| store.logged.addr == entry.logged.addr),
+    )
 }
 
 /// How many of the operations are of each core, from core 0 to the last that there may be.
 fn by_core(alloc: Global, entries: &[Entry]) -> Result<Vec<usize>, AllocError> {
     let mut counts: Vec<usize> = vec![in alloc; 0; 64]?;
     for entry in entries {
-        if let Some(count) = counts.get_mut(entry.id().core.get() as usize) {
+        if let Some(count) = counts.get_mut(entry.id.core.get() as usize) {
             *count = count.saturating_add(1);
         }
     }

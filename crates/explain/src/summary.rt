@@ -22,10 +22,10 @@ const MOST_USED_ADDRESSES: usize = 5;
 /// How often each address is used, where the entries stand by address.
 pub(crate) fn uses(alloc: Global, entries: &[Entry]) -> Result<Vec<Use>, AllocError> {
     let mut uses = Vec::new(alloc);
-    for group in entries.chunk_by(|one, other| one.addr() == other.addr()) {
+    for group in entries.chunk_by(|one, other| one.logged.addr == other.logged.addr) {
         if let Some(first) = group.first() {
             uses.push(Use {
-                addr: first.addr(),
+                addr: first.logged.addr,
                 operations: group.len(),
             })?;
         }

@@ -30,7 +30,7 @@ pub(crate) fn is_right_with(load: &Entry, store: Option<&Entry>) -> bool
 fn is_earlier_store(other: &Entry, entry: &Entry) -> bool
     ensures { result ≡ is_earlier_store other.now entry.now }
 {
-    is_store(entry) && entry.addr() == other.addr() && entry.key() < other.key()
+    is_store(entry) && entry.logged.addr == other.logged.addr && entry.key() < other.key()
 }
 
 /// The last store before an operation by key, among those of its address.
@@ -71,7 +71,7 @@ pub(crate) fn is_right_before(group: &[Entry], load: &Entry, right: &Option<Entr
         return false;
     };
     let before = right_store(group, right);
-    right.id().core != load.id().core && is_right_with(load, before.as_ref())
+    right.id.core != load.id.core && is_right_with(load, before.as_ref())
 }
 
 /// Whether a load breaks no rule just after the store that comes next, if another core made it.
@@ -79,7 +79,7 @@ pub(crate) fn is_right_after(load: &Entry, next: &Option<Entry>) -> bool
     ensures { result ≡ is_right_later load.now next.now }
 {
     match next {
-        Some(next) => next.id().core != load.id().core && is_right_with(load, Some(next)),
+        Some(next) => next.id.core != load.id.core && is_right_with(load, Some(next)),
         None => false,
     }
 }

@@ -22,7 +22,7 @@ use verdict::Rule;
 fn has_id(entry: &Entry, id: OpId) -> bool
     ensures { result ≡ is_same_id entry.now.id id }
 {
-    entry.id() == id
+    entry.id == id
 }
 
 /// The place of the first record of an id.
@@ -66,7 +66,7 @@ fn rows_of(
     entry: &Option<Entry>,
 ) -> Result<Vec<Entry>, AllocError> {
     match entry {
-        Some(entry) => around(alloc, entries, entry.id()),
+        Some(entry) => around(alloc, entries, entry.id),
         None => Ok(Vec::new(alloc)),
     }
 }
@@ -82,28 +82,29 @@ pub(crate) fn wrong_read(
     ensures none { IfOk result (λ o. IsNone o → of_id index.now id ≡ None) }
 {
     let all = index.all();
-    let Some(load) = entry_of(all, id) else {
+    let found = entry_of(all, id);
+    let Some(load) = &found else {
         return Ok(None);
     };
-    let group = index.group(load.addr());
+    let group = index.group(load.logged.addr);
     let Some(place) = place_of(group, id) else {
         return Ok(None);
     };
-    let right = right_store(group, &load);
+    let right = right_store(group, load);
     let next = store_after(group, place);
-    let named = named(all, &load);
+    let named = named(all, load);
     Ok(Some(WrongRead {
         rule,
-        load,
+        load: *load,
         right,
         named,
-        culprit: culprit(group, place, &load, &named),
-        same_word: same_word(group, place, &load),
+        culprit: culprit(group, place, load, &named),
+        same_word: same_word(group, place, load),
         rows: entries_around(alloc, group, place)?,
         place: place - start_of(place),
-        is_right_earlier: is_right_before(group, &load, &right),
+        is_right_earlier: is_right_before(group, load, &right),
         next,
-        is_right_later: is_right_after(&load, &next),
+        is_right_later: is_right_after(load, &next),
         own_last: last_of_core(group, place, id.core),
         own_rows: around(alloc, all, id)?,
         right_rows: rows_of(alloc, all, &right)?,

@@ -62,7 +62,7 @@ impl RecordList for EntryList {
             core: self.core,
             index,
         };
-        self.entries.push(Entry::new(id, &logged))?;
+        self.entries.push(Entry { logged, id })?;
         Ok(())
     }
 }

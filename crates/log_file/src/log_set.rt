@@ -22,7 +22,7 @@ fn records_of(alloc: Global, entries: &[Entry]) -> Result<Vec<Record>, AllocErro
     ensures records { IfOk result (λ records. records.items ≡ map (λ (e : Entry). e.logged) entries.now) }
     ensures len { IfOk result (λ records. vec_len records ≡ length entries.now) }
 {
-    entries.iter().map(|e| e.logged()).collect(alloc)
+    entries.iter().map(|e| e.logged).collect(alloc)
 }
 
 /// The logs of a set in one list, each record with its id, core 0's first: at most 64 logs, each of at most 1,048,576

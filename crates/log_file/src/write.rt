@@ -9,7 +9,7 @@ ghost use Rattle.log_file.specs.Log.{HasEach, IsLog, spelling, with_lf};
 use super::byte_sink::{ByteSink, write_all};
 use super::device_fault::WriteFault;
 use super::write_fault::LogWriteFault;
-use log_record::{Act, Format, LineBuffer, Record, print_end, print_header};
+use log_record::{Act, Format, Record, print_end, print_header, push_line};
 use mem_op::{CoreId, Source};
 use std::alloc::Global;
 
@@ -70,19 +70,19 @@ fn write_lines<W: ByteSink>(
     ensures failures { TellsFailure (IsErrOf result WriteFault.Write)
         (W.failed sink.old) (W.failed sink.new) }
 {
-    write_line(sink, print_header(alloc, format, core, cores)?)?;
-    let mut line = LineBuffer::new();
+    write_line(sink, &mut print_header(alloc, format, core, cores)?)?;
+    let mut line = String::new(alloc);
     for logged in records {
         in_range(logged);
         write_record(sink, &mut line, logged)?;
     }
-    write_line(sink, print_end(alloc, records.len() as u64)?)
+    write_line(sink, &mut print_end(alloc, records.len() as u64)?)
 }
 
 // Writes a line with its line feed.
-fn write_line<W: ByteSink>(sink: &mut W, mut line: String) -> Result<(), WriteFault>
+fn write_line<W: ByteSink>(sink: &mut W, line: &mut String) -> Result<(), WriteFault>
     ensures written { Writes (W.contents sink.old) (W.contents sink.new)
-        (with_lf (string_bytes line)) result }
+        (with_lf (string_bytes line.old)) result }
     ensures failures { TellsFailure (IsErrOf result WriteFault.Write)
         (W.failed sink.old) (W.failed sink.new) }
 {
@@ -91,10 +91,10 @@ fn write_line<W: ByteSink>(sink: &mut W, mut line: String) -> Result<(), WriteFa
     Ok(())
 }
 
-// Writes the line of a record with its line feed, through this buffer.
+// Writes the line of a record with its line feed. The line takes the room of an earlier one.
 fn write_record<W: ByteSink>(
     sink: &mut W,
-    line: &mut LineBuffer,
+    line: &mut String,
     logged: &Record,
 ) -> Result<(), WriteFault>
     ensures written { Writes (W.contents sink.old) (W.contents sink.new)
@@ -102,7 +102,9 @@ fn write_record<W: ByteSink>(
     ensures failures { TellsFailure (IsErrOf result WriteFault.Write)
         (W.failed sink.old) (W.failed sink.new) }
 {
-    Ok(write_all(sink, line.line(logged))?)
+    line.clear();
+    push_line(line, logged)?;
+    write_line(sink, line)
 }
 
 // Does nothing: its contract says that the numbers of a record are in range.

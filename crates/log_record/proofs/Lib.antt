@@ -1,7 +1,7 @@
-pub mod Buffers
 pub mod Ends
 pub mod EntryFacts
 pub mod Kept
 pub mod Lines
+pub mod Printing
 pub mod Records
-pub mod Tags
+pub mod SourceNumbers

@@ -7,13 +7,13 @@ use Rattle.mem_op.specs.declared.id.Source.{Source}
 use Rattle.mem_op.specs.declared.id.Source.TheVariants as source
 use Rattle.log_record.specs.declared.act.Act.{Act}
 use Rattle.log_record.specs.declared.act.Act.TheVariants as act
-use Rattle.log_record.specs.declared.reading.Letter.{Letter}
-use Rattle.log_record.specs.declared.reading.Letter.TheVariants as letter
+use Rattle.log_record.specs.declared.act.Kind.{Kind}
+use Rattle.log_record.specs.declared.act.Kind.TheVariants as kind
 use Rattle.log_record.specs.declared.record.Record.{Record}
 use Rattle.decimal_text.specs.Numbers.{numeral}
 use Rattle.decimal_text.specs.Reading.{◌>>=◌, number_at, after, field_at, is_digit}
 use Rattle.log_record.specs.Line.{source_text, record_text}
-use Rattle.log_record.specs.inner.Buffers.{act_text}
+use Rattle.log_record.specs.inner.PackedActs.{kind_of}
 use Rattle.log_record.specs.inner.Reading.{store_source_at, source_at, Fields, fields_at, letter_at, reading_letter_at, act_at, made, lettered_at, record_of}
 use Rattle.decimal_text.proofs.Numbers.{NoDigit, number_takes, number_again, after_takes, after_again, AreDigits, numeral_digits, numeral_some}
 use Rattle.decimal_text.proofs.Reading.{bind_some, some_is, whole_some, field_takes, field_again}
@@ -81,18 +81,19 @@ fields_again f rest =
     rw (field_again 32 f.addr (numeral f.value ++ (32 ∷ (numeral f.ts ++ (32 ∷ rest)))) refl, field_again 32 f.value (numeral f.ts ++ (32 ∷ rest)) refl, field_again 32 f.ts rest refl) refl
 
 -- what a record's line begins with, with bytes after it
-abbrev pub letter_text : Letter → List ℕ → List ℕ
-letter_text letter.Store rest = 83 ∷ 32 ∷ rest
-letter_text letter.Load rest = 76 ∷ 32 ∷ rest
-letter_text letter.Swap rest = 88 ∷ 32 ∷ rest
+abbrev pub letter_text : Kind → List ℕ → List ℕ
+letter_text kind.Store rest = 83 ∷ 32 ∷ rest
+letter_text kind.Load rest = 76 ∷ 32 ∷ rest
+letter_text kind.Swap rest = 88 ∷ 32 ∷ rest
 
-abbrev pub letter_of : Act → Letter
-letter_of act.Store = letter.Store
-letter_of (act.Load s) = letter.Load
-letter_of (act.Swap s read) = letter.Swap
+-- what comes after a record's rank, and then these bytes
+abbrev act_text : Act → List ℕ → List ℕ
+act_text act.Store rest = rest
+act_text (act.Load s) rest = 32 ∷ (source_text s ++ rest)
+act_text (act.Swap s read) rest = 32 ∷ (source_text s ++ (32 ∷ (numeral read ++ rest)))
 
 abbrev pub lettered_text : Act → Fields → ℕ → List ℕ → List ℕ
-lettered_text a f rank rest = letter_text (letter_of a) (fields_text f (numeral rank ++ act_text a rest))
+lettered_text a f rank rest = letter_text (kind_of a) (fields_text f (numeral rank ++ act_text a rest))
 
 abbrev pub fields_in : Record → Fields
 fields_in r = record { addr = r.addr; value = r.value; ts = r.ts }
@@ -109,33 +110,33 @@ record_text_is r = go r.act
     go (act.Load s) = ap (λ (last : List ℕ). 76 ∷ 32 ∷ fields_text (fields_in r) (numeral r.rank ++ (32 ∷ last))) (sym (append-nil (source_text s)))
     go (act.Swap s read) = ap (λ (last : List ℕ). 88 ∷ 32 ∷ fields_text (fields_in r) (numeral r.rank ++ (32 ∷ (source_text s ++ (32 ∷ last))))) (sym (append-nil (numeral read)))
 
-reading_letter_takes : (bytes : List ℕ) (x : Letter × List ℕ) → reading_letter_at bytes ≡ Some x → bytes ≡ letter_text x.0 x.1
+reading_letter_takes : (bytes : List ℕ) (x : Kind × List ℕ) → reading_letter_at bytes ≡ Some x → bytes ≡ letter_text x.0 x.1
 unfolding reading_letter_at
 reading_letter_takes bytes x e =
     elim (cases_Bool (is_some (after (codes "L ") bytes))) [
       | inl is-load ↦
-          let b = bind_some (after (codes "L ") bytes) (λ rest. Some (letter.Load, rest)) x (sym (cond-true (is_some (after (codes "L ") bytes)) (after (codes "L ") bytes >>= λ rest. Some (letter.Load, rest)) (after (codes "X ") bytes >>= λ rest. Some (letter.Swap, rest)) is-load) ∙ e) in
-          subst (λ (y : Letter × List ℕ). bytes ≡ letter_text y.0 y.1) (some_is (letter.Load, b.0) x b.2) (after_takes (codes "L ") bytes b.0 b.1)
+          let b = bind_some (after (codes "L ") bytes) (λ rest. Some (kind.Load, rest)) x (sym (cond-true (is_some (after (codes "L ") bytes)) (after (codes "L ") bytes >>= λ rest. Some (kind.Load, rest)) (after (codes "X ") bytes >>= λ rest. Some (kind.Swap, rest)) is-load) ∙ e) in
+          subst (λ (y : Kind × List ℕ). bytes ≡ letter_text y.0 y.1) (some_is (kind.Load, b.0) x b.2) (after_takes (codes "L ") bytes b.0 b.1)
       | inr other ↦
-          let b = bind_some (after (codes "X ") bytes) (λ rest. Some (letter.Swap, rest)) x (sym (cond-false (is_some (after (codes "L ") bytes)) (after (codes "L ") bytes >>= λ rest. Some (letter.Load, rest)) (after (codes "X ") bytes >>= λ rest. Some (letter.Swap, rest)) other) ∙ e) in
-          subst (λ (y : Letter × List ℕ). bytes ≡ letter_text y.0 y.1) (some_is (letter.Swap, b.0) x b.2) (after_takes (codes "X ") bytes b.0 b.1)
+          let b = bind_some (after (codes "X ") bytes) (λ rest. Some (kind.Swap, rest)) x (sym (cond-false (is_some (after (codes "L ") bytes)) (after (codes "L ") bytes >>= λ rest. Some (kind.Load, rest)) (after (codes "X ") bytes >>= λ rest. Some (kind.Swap, rest)) other) ∙ e) in
+          subst (λ (y : Kind × List ℕ). bytes ≡ letter_text y.0 y.1) (some_is (kind.Swap, b.0) x b.2) (after_takes (codes "X ") bytes b.0 b.1)
     ]
 
-letter_takes : (bytes : List ℕ) (x : Letter × List ℕ) → letter_at bytes ≡ Some x → bytes ≡ letter_text x.0 x.1
+letter_takes : (bytes : List ℕ) (x : Kind × List ℕ) → letter_at bytes ≡ Some x → bytes ≡ letter_text x.0 x.1
 unfolding letter_at
 letter_takes bytes x e =
     elim (cases_Bool (is_some (after (codes "S ") bytes))) [
       | inl is-store ↦
-          let b = bind_some (after (codes "S ") bytes) (λ rest. Some (letter.Store, rest)) x (sym (cond-true (is_some (after (codes "S ") bytes)) (after (codes "S ") bytes >>= λ rest. Some (letter.Store, rest)) (reading_letter_at bytes) is-store) ∙ e) in
-          subst (λ (y : Letter × List ℕ). bytes ≡ letter_text y.0 y.1) (some_is (letter.Store, b.0) x b.2) (after_takes (codes "S ") bytes b.0 b.1)
-      | inr other ↦ reading_letter_takes bytes x (sym (cond-false (is_some (after (codes "S ") bytes)) (after (codes "S ") bytes >>= λ rest. Some (letter.Store, rest)) (reading_letter_at bytes) other) ∙ e)
+          let b = bind_some (after (codes "S ") bytes) (λ rest. Some (kind.Store, rest)) x (sym (cond-true (is_some (after (codes "S ") bytes)) (after (codes "S ") bytes >>= λ rest. Some (kind.Store, rest)) (reading_letter_at bytes) is-store) ∙ e) in
+          subst (λ (y : Kind × List ℕ). bytes ≡ letter_text y.0 y.1) (some_is (kind.Store, b.0) x b.2) (after_takes (codes "S ") bytes b.0 b.1)
+      | inr other ↦ reading_letter_takes bytes x (sym (cond-false (is_some (after (codes "S ") bytes)) (after (codes "S ") bytes >>= λ rest. Some (kind.Store, rest)) (reading_letter_at bytes) other) ∙ e)
     ]
 
-letter_again : (l : Letter) (rest : List ℕ) → letter_at (letter_text l rest) ≡ Some (l, rest)
+letter_again : (l : Kind) (rest : List ℕ) → letter_at (letter_text l rest) ≡ Some (l, rest)
 unfolding letter_at reading_letter_at after
-letter_again letter.Store rest = refl
-letter_again letter.Load rest = refl
-letter_again letter.Swap rest = refl
+letter_again kind.Store rest = refl
+letter_again kind.Load rest = refl
+letter_again kind.Swap rest = refl
 
 load_joined : (s : Source) (bytes r1 rest : List ℕ) → bytes ≡ codes " " ++ r1 → r1 ≡ source_text s ++ rest → bytes ≡ act_text (act.Load s) rest
 load_joined s bytes r1 rest e1 e2 = e1 ∙ ap (λ (r : List ℕ). 32 ∷ r) e2
@@ -145,27 +146,27 @@ swap_joined : (s : Source) (read : ℕ) (bytes r1 r2 r3 rest : List ℕ) → byt
 swap_joined s read bytes r1 r2 r3 rest e1 e2 e3 e4 =
     e1 ∙ ap (λ (r : List ℕ). 32 ∷ r) (e2 ∙ ap (λ (r : List ℕ). source_text s ++ r) (e3 ∙ ap (λ (r : List ℕ). 32 ∷ r) e4))
 
-abbrev IsActRead : Letter → List ℕ → Act × List ℕ → Type 0
-IsActRead l bytes x = (letter_of x.0 ≡ l) × (bytes ≡ act_text x.0 x.1)
+abbrev IsActRead : Kind → List ℕ → Act × List ℕ → Type 0
+IsActRead l bytes x = (kind_of x.0 ≡ l) × (bytes ≡ act_text x.0 x.1)
 
-act_takes : (l : Letter) (bytes : List ℕ) (x : Act × List ℕ) → act_at l bytes ≡ Some x → IsActRead l bytes x
+act_takes : (l : Kind) (bytes : List ℕ) (x : Act × List ℕ) → act_at l bytes ≡ Some x → IsActRead l bytes x
 unfolding act_at
-act_takes letter.Store bytes x e = subst (IsActRead letter.Store bytes) (some_is (act.Store, bytes) x e) (refl, refl)
-act_takes letter.Load bytes x e =
+act_takes kind.Store bytes x e = subst (IsActRead kind.Store bytes) (some_is (act.Store, bytes) x e) (refl, refl)
+act_takes kind.Load bytes x e =
     let a = bind_some (after (codes " ") bytes) (λ rest. source_at rest >>= λ s. Some (act.Load s.0, s.1)) x e in
     let b = bind_some (source_at a.0) (λ s. Some (act.Load s.0, s.1)) x a.2 in
-    subst (IsActRead letter.Load bytes) (some_is (act.Load b.0.0, b.0.1) x b.2)
+    subst (IsActRead kind.Load bytes) (some_is (act.Load b.0.0, b.0.1) x b.2)
     (refl, load_joined b.0.0 bytes a.0 b.0.1 (after_takes (codes " ") bytes a.0 a.1) (source_takes a.0 b.0 b.1))
-act_takes letter.Swap bytes x e =
+act_takes kind.Swap bytes x e =
     let a = bind_some (after (codes " ") bytes) (λ rest. source_at rest >>= λ s. after (codes " ") s.1 >>= λ last. number_at last >>= λ read. Some (act.Swap s.0 read.0, read.1)) x e in
     let b = bind_some (source_at a.0) (λ s. after (codes " ") s.1 >>= λ last. number_at last >>= λ read. Some (act.Swap s.0 read.0, read.1)) x a.2 in
     let c = bind_some (after (codes " ") b.0.1) (λ last. number_at last >>= λ read. Some (act.Swap b.0.0 read.0, read.1)) x b.2 in
     let d = bind_some (number_at c.0) (λ read. Some (act.Swap b.0.0 read.0, read.1)) x c.2 in
     let found : Act × List ℕ = (act.Swap b.0.0 d.0.0, d.0.1) in
-    subst (IsActRead letter.Swap bytes) {x = found} (some_is found x d.2)
-    (refl {a = letter.Swap}, swap_joined b.0.0 d.0.0 bytes a.0 b.0.1 c.0 d.0.1 (after_takes (codes " ") bytes a.0 a.1) (source_takes a.0 b.0 b.1) (after_takes (codes " ") b.0.1 c.0 c.1) (number_takes c.0 d.0 d.1))
+    subst (IsActRead kind.Swap bytes) {x = found} (some_is found x d.2)
+    (refl {a = kind.Swap}, swap_joined b.0.0 d.0.0 bytes a.0 b.0.1 c.0 d.0.1 (after_takes (codes " ") bytes a.0 a.1) (source_takes a.0 b.0 b.1) (after_takes (codes " ") b.0.1 c.0 c.1) (number_takes c.0 d.0 d.1))
 
-act_again : (a : Act) (rest : List ℕ) → NoDigit rest → act_at (letter_of a) (act_text a rest) ≡ Some (a, rest)
+act_again : (a : Act) (rest : List ℕ) → NoDigit rest → act_at (kind_of a) (act_text a rest) ≡ Some (a, rest)
 unfolding act_at
 act_again act.Store rest none = refl
 act_again (act.Load s) rest none = rw (after_again (codes " ") (source_text s ++ rest), source_again s rest none) refl
@@ -177,9 +178,9 @@ no_digit_after_rank act.Store rest none = none
 no_digit_after_rank (act.Load s) rest none = refl
 no_digit_after_rank (act.Swap s read) rest none = refl
 
-joined : (l : Letter) (a : Act) (f : Fields) (rank : ℕ) (bytes r1 r2 r3 rest : List ℕ) → letter_of a ≡ l → bytes ≡ letter_text l r1 → r1 ≡ fields_text f r2 → r2 ≡ numeral rank ++ r3 → r3 ≡ act_text a rest → bytes ≡ lettered_text a f rank rest
+joined : (l : Kind) (a : Act) (f : Fields) (rank : ℕ) (bytes r1 r2 r3 rest : List ℕ) → kind_of a ≡ l → bytes ≡ letter_text l r1 → r1 ≡ fields_text f r2 → r2 ≡ numeral rank ++ r3 → r3 ≡ act_text a rest → bytes ≡ lettered_text a f rank rest
 joined l a f rank bytes r1 r2 r3 rest same e1 e2 e3 e4 =
-    e1 ∙ ap (λ (k : Letter). letter_text k r1) (sym same) ∙ ap (letter_text (letter_of a)) (e2 ∙ ap (fields_text f) (e3 ∙ ap (λ (r : List ℕ). numeral rank ++ r) e4))
+    e1 ∙ ap (λ (k : Kind). letter_text k r1) (sym same) ∙ ap (letter_text (kind_of a)) (e2 ∙ ap (fields_text f) (e3 ∙ ap (λ (r : List ℕ). numeral rank ++ r) e4))
 
 lettered_takes : (bytes : List ℕ) (x : Record × List ℕ) → lettered_at bytes ≡ Some x → bytes ≡ text_with x.0 x.1
 unfolding lettered_at
@@ -197,7 +198,7 @@ lettered_takes bytes x e =
 lettered_again : (a : Act) (f : Fields) (rank : ℕ) (rest : List ℕ) → NoDigit rest → lettered_at (lettered_text a f rank rest) ≡ Some (made a f rank, rest)
 unfolding lettered_at
 lettered_again a f rank rest none =
-    rw (letter_again (letter_of a) (fields_text f (numeral rank ++ act_text a rest)), fields_again f (numeral rank ++ act_text a rest), number_again rank (act_text a rest) (no_digit_after_rank a rest none), act_again a rest none) refl
+    rw (letter_again (kind_of a) (fields_text f (numeral rank ++ act_text a rest)), fields_again f (numeral rank ++ act_text a rest), number_again rank (act_text a rest) (no_digit_after_rank a rest none), act_again a rest none) refl
 
 pub record_takes : (line : List ℕ) (r : Record) → record_of line ≡ Some r → line ≡ record_text r
 unfolding record_of

@@ -1,8 +1,7 @@
 pub use Rattle.decimal_text.specs.Numbers
 pub mod Entries
-pub mod EntryParts
 pub mod Faults
 pub mod Laws
 pub mod Line
-pub mod RecordParts
+pub mod SourceNumbers
 pub mod inner

@@ -1,6 +1,5 @@
 -- Definitions that serve private contracts alone.
-pub mod Buffers
-pub mod FlatActs
 pub mod Kept
+pub mod PackedActs
+pub mod Printing
 pub mod Reading
-pub mod Tags

@@ -11,19 +11,11 @@ ghost use Rattle.log_record.specs.declared.record.Record.{Record};
 ghost use Rattle.log_record.specs.inner.Kept.{source_kept, act_kept, record_kept};
 ghost use Rattle.log_record.specs.inner.Reading.{store_source_at, source_at, letter_at, act_at, lettered_at, record_of};
 
-use super::act::FlatAct;
+use super::act::{Act, Kind, PackedAct};
 use super::record::Record;
 use decimal_text::{after_text, read_field, read_number};
 use line_stamps::{Rank, Stamp};
 use mem_op::{Addr, CoreId, OpId, OpIndex, Source};
-
-/// The letter with which a record's line begins: its act.
-#[derive(Clone, Copy, Debug, PartialEq, Eq)]
-pub(crate) enum Letter {
-    Store,
-    Load,
-    Swap,
-}
 
 /// The store of this core and index, if they are in range.
 #[inline(always)]
@@ -64,47 +56,47 @@ fn source(bytes: &[u8]) -> Option<(Option<Source>, &[u8])>
 /// The letter with which a record's line begins, and the bytes after its space.
 #[inline(always)]
 #[tactic(auto, unfolding(crate::specs::inner::Reading::letter_at, crate::specs::inner::Reading::reading_letter_at, decimal_text::specs::Reading::after))]
-fn first_letter(bytes: &[u8]) -> Option<(Letter, &[u8])>
+fn first_letter(bytes: &[u8]) -> Option<(Kind, &[u8])>
     ensures { front_now result ≡ letter_at bytes.now }
 {
     match bytes {
-        [b'S', b' ', rest @ ..] => Some((Letter::Store, rest)),
-        [b'L', b' ', rest @ ..] => Some((Letter::Load, rest)),
-        [b'X', b' ', rest @ ..] => Some((Letter::Swap, rest)),
+        [b'S', b' ', rest @ ..] => Some((Kind::Store, rest)),
+        [b'L', b' ', rest @ ..] => Some((Kind::Load, rest)),
+        [b'X', b' ', rest @ ..] => Some((Kind::Swap, rest)),
         _ => None,
     }
 }
 
 /// A load with this source, if it is in range.
 #[inline(always)]
-fn load(source: Option<Source>) -> Option<FlatAct>
+fn load(source: Option<Source>) -> Option<PackedAct>
     ensures { result ≡ option_map (λ s. Load s) source }
 {
-    Some(FlatAct::load(source?))
+    Some(PackedAct::of(Act::Load(source?)))
 }
 
 /// A swap with this source and the word that it read, if they are in range.
 #[inline(always)]
-fn swap(source: Option<Source>, read: Option<u64>) -> Option<FlatAct>
+fn swap(source: Option<Source>, read: Option<u64>) -> Option<PackedAct>
     ensures { result ≡ option_and_then (λ s. option_map (λ word. Swap s word) read) source }
 {
-    Some(FlatAct::swap(source?, read?))
+    Some(PackedAct::of(Act::Swap(source?, read?)))
 }
 
 /// The act, from the bytes after the rank: of a load or a swap the source, and then the word that a
 /// swap read.
 #[inline(always)]
 #[tactic(auto, unfolding(crate::specs::inner::Reading::act_at, crate::specs::inner::Kept::act_kept))]
-fn act(letter: Letter, bytes: &[u8]) -> Option<(Option<FlatAct>, &[u8])>
+fn act(letter: Kind, bytes: &[u8]) -> Option<(Option<PackedAct>, &[u8])>
     ensures { front_now result ≡ front_map act_kept (act_at letter bytes.now) }
 {
-    if letter == Letter::Store {
-        return Some((Some(FlatAct::store()), bytes));
+    if letter == Kind::Store {
+        return Some((Some(PackedAct::of(Act::Store)), bytes));
     }
     let Some((source, rest)) = source(after_text(b" ", bytes)?) else {
         return None;
     };
-    if letter == Letter::Load {
+    if letter == Kind::Load {
         return Some((load(source), rest));
     }
     let (read, rest) = read_number(after_text(b" ", rest)?)?;
@@ -119,7 +111,7 @@ fn in_range(
     value: Option<u64>,
     ts: Option<u64>,
     rank: Option<u64>,
-    act: Option<FlatAct>,
+    act: Option<PackedAct>,
 ) -> Option<Record>
     ensures { (r : Record) → addr ≡ as_u64 r.addr → value ≡ as_u64 r.value → ts ≡ as_u64 r.ts
         → rank ≡ as_u64 r.rank → act ≡ act_kept r.act → result ≡ record_kept r }
@@ -128,7 +120,13 @@ fn in_range(
     let ts = Stamp::new(ts?).ok()?;
     let rank = Rank::new(rank?).ok()?;
     let addr = Addr::new(addr?).ok()?;
-    Some(Record::of_flat(value, ts, rank, addr, act?))
+    Some(Record {
+        value,
+        ts,
+        act: act?,
+        rank,
+        addr,
+    })
 }
 
 /// A record from its letter on, and the bytes after it.

@@ -5,7 +5,7 @@ use Rattle.std.proofs.lemmas.List.{take-append-drop, drop-drop, drop_all, drop-t
 use Rattle.log_record.specs.declared.record.Record.{Record}
 use Rattle.log_file.specs.declared.fault.LogFault.{LogFault}
 use Rattle.log_file.specs.declared.fault.LogFault.TheVariants.{At, OutOfMemory, Read}
-use Rattle.log_file.specs.Answering.{Answering, AnswersOne, HasAnswered, IsFaultless}
+use Rattle.log_file.specs.Answering.{Answering, AnswersOne, HasAnswered}
 use Rattle.log_file.specs.Answers.{IsFaultOf, IsFaultOrDevice}
 use Rattle.log_file.specs.Devices.{Tells}
 use Rattle.log_file.specs.Feeding.{IsSettled}
@@ -131,9 +131,6 @@ pub record HasRead (log : OpenedLog) (reads : ℕ) : Type 0 where
   pub records : List Record
   pub answered : HasAnswered log.reader bytes records
   pub few : reads ≤ length bytes + length log.unused
-
-pub read_none : (log : OpenedLog) → IsFaultless log.reader → HasRead log 0
-read_none log h = record { bytes = h.0; records = h.1.0; answered = h.1.1; few = omega arith }
 
 module _ {log : OpenedLog} {reads : ℕ} (h : HasRead log reads) (mid : OpenedLog) (takes : (bytes : List ℕ) (rs : List Record) → HasAnswered log.reader bytes rs → TakesOne bytes rs log (Ok None) mid) where
   fed : (new : OpenedLog) → new.reader ≡ mid.reader → HasAnswered new.reader (h.bytes ++ log.unused) h.records

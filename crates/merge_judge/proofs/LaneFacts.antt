@@ -1,5 +1,5 @@
 -- A log of a merge, one record further.
-use Rattle.std.specs.Prelude.{◌≡◌, ℕ, zero, suc, ◌+◌, ◌≤◌, List, [], ◌∷◌, ◌++◌, refl, Option, Some, None, Ok, length}
+use Rattle.std.specs.Prelude.{◌≡◌, ℕ, ◌+◌, ◌≤◌, List, [], ◌∷◌, ◌++◌, refl, Option, Some, None, Ok, length}
 use Rattle.std.proofs.Common.{sym, ◌∙◌, ap, subst, arith, length-append}
 use Rattle.log_record.specs.declared.record.Record.{Record}
 use Rattle.core_program.specs.Least.{IsLeastWhere}
@@ -15,7 +15,7 @@ use Rattle.log_file.specs.declared.stage.Stage.{Stage}
 use Rattle.log_file.specs.declared.stage.Stage.TheVariants as last_read
 use Rattle.log_file.specs.Answering.{Answering, HasAnswered}
 use Rattle.log_file.specs.Standing.{IsSound}
-use Rattle.merge_judge.proofs.Falls.{fall_more, fall_past}
+use Rattle.merge_judge.proofs.Falls.{fall_more}
 
 -- ---- how many records a log has
 
@@ -36,23 +36,6 @@ stage_of core cores first still log records (Some r) h = (refl, h)
 
 module _ {S : Type 0} (remaining : S → Option (List ℕ)) (failed : S → ℕ) (core cores : ℕ) (before old new : S) (log : KeptLog) (next : Option Record) (fault : Option LogFault)
     (read : fault ≡ Some Read → Failed (failed old) (failed new)) (quiet : (fault ≡ Some Read → ⊥) → failed new ≡ failed old) where
-  -- the first record
-  pub opened_at : failed old ≡ failed before → IsStage core cores (remaining before) (remaining new) log [] next fault
-      → IsLaneAt remaining failed core cores before new (record { log = log; front = next; merged = 0; falls = None; fault = fault }) []
-  opened_at same stage = record {
-    stage = stage;
-    first_fall = steady next;
-    count = refl;
-    few = omega arith;
-    read = λ h. subst (λ n. Failed n (failed new)) same (read h);
-    quiet = λ h. quiet h ∙ same;
-  }
-    where
-      steady : (o : Option Record) → IsLeastWhere (is_core_fault (front_list o)) None
-      steady None i = fall_past [] i (omega arith)
-      steady (Some r) zero = refl
-      steady (Some r) (suc i) = fall_past (r ∷ []) (suc i) (omega arith)
-
   -- one record further
   pub further : (lane : LaneParts) (merged : List Record) (e : Record) (falls : Option ℕ) → lane.front ≡ Some e → IsLaneAt remaining failed core cores before old lane merged
       → ((first : Option (List ℕ)) (records : List Record) → FollowsOn core cores first (remaining old) lane.log records → IsStage core cores first (remaining new) log records next fault)

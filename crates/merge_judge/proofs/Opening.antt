@@ -1,7 +1,7 @@
 -- The first records of the logs of a set, log by log.
 use Rattle.std.specs.Prelude.{◌≡◌, ◌↔◌, ℕ, zero, suc, ◌+◌, ◌≤◌, Bool, true, List, [], ◌∷◌, ◌++◌, refl, Option, Some, length, replicate, slice_get, slice_set, slice_index}
 use Rattle.std.proofs.Common.{sym, ◌∙◌, ap, subst, arith, length-set}
-use Rattle.std.proofs.lemmas.List.{get_or_append_left, get_or_push, length-replicate, length_push}
+use Rattle.std.proofs.lemmas.List.{get_or_append_left, get_or_push, length_push}
 use Rattle.std.proofs.lemmas.Option.{slice_get_within}
 use Rattle.log_record.specs.declared.record.Record.{Record}
 use Rattle.log_record.specs.Entries.{entry_cmp, entries_from}
@@ -15,21 +15,6 @@ use Rattle.merge_judge.specs.inner.Lanes.{AreLanes, IsFrontNumber, IsLaneAt, IsL
 pub record Opened {S : Type 0} (remaining : S → Option (List ℕ)) (failed : S → ℕ) (before after : List S) (n : ℕ) (lanes : List LaneParts) (numbers : List ℕ) (clean : Bool) : Type 0 where
   pub all : AreLanes remaining failed before after n lanes numbers clean (replicate (length before) [])
   pub rest : (k : ℕ) → n ≤ k → slice_get after k ≡ slice_get before k
-
-pub opened_none : {S : Type 0} (remaining : S → Option (List ℕ)) (failed : S → ℕ) (readers : List S) → length readers ≤ 64 → Opened remaining failed readers readers 0 [] [] true
-opened_none remaining failed readers few = record {
-  all = record {
-    readers = refl;
-    few = few;
-    logs = length-replicate (length readers) [];
-    many = refl;
-    fronts = refl;
-    lane = λ k l hl. absurd (let w = slice_get_within [] k l hl in omega (arith, w));
-    number = λ k l hl. absurd (let w = slice_get_within [] k l hl in omega (arith, w));
-    clean_is = (λ h k l hl. absurd (let w = slice_get_within [] k l hl in omega (arith, w)), λ h. refl);
-  };
-  rest = λ k l. refl;
-}
 
 -- nothing was merged yet
 pub no_entries : (core n : ℕ) → entries_from core (replicate n []) ≡ []

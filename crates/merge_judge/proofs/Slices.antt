@@ -1,11 +1,11 @@
 -- Logs whose records are there, as texts that sources tell.
-use Rattle.std.specs.Prelude.{◌≡◌, ◌==◌, ◌<◌, ◌≤◌, ◌⊎◌, All, drop, ℕ, zero, suc, ◌+◌, true, false, List, [], ◌∷◌, ◌++◌, refl, Option, None, Some, Result, Ok, Err, IfErr, IfSome, MatchResult, get_or, length, map, slice_get}
+use Rattle.std.specs.Prelude.{◌≡◌, ◌≤◌, ◌⊎◌, All, drop, ℕ, zero, suc, ◌+◌, false, List, [], ◌∷◌, ◌++◌, refl, Option, None, Some, Result, Ok, Err, IfErr, IfSome, MatchResult, get_or, length, map, slice_get}
 use Rattle.std.specs.List.{AllZip}
 use Rattle.std.proofs.Common.{add-one, sym, ◌∙◌, ap, subst, arith, inl, inr, append_assoc, append-nil, length-append}
 use Rattle.std.specs.Io.KnownBytes.{Consumes}
-use Rattle.std.proofs.lemmas.Grind.{common_steps, flat_map-append}
+use Rattle.std.proofs.lemmas.Grind.{common_steps}
 use Rattle.std.proofs.lemmas.List.{drop_all, length-map}
-use Rattle.std.proofs.lemmas.List.Elements.{All-get_or, All-head, All-map, All-nil, All-tail}
+use Rattle.std.proofs.lemmas.List.Elements.{All-get_or, All-head, All-map, All-tail}
 use Rattle.std.proofs.lemmas.Slice.Zip.{AllZip-long}
 use Rattle.std.proofs.Math.Seq.{drop-cons}
 use Rattle.std.proofs.lemmas.Option.{get_or_from_slice_get, gets, slice_get-get_or, slice_get_within}
@@ -86,30 +86,6 @@ module _ (core cores own_core own_cores : ℕ) (first still : Option (List ℕ))
       spelled : h.0.bytes ++ lines_from records at ≡ spelling Two own_core own_cores answered
       spelled = ap (λ bs. bs ++ lines_from records at) (h.0.answered.text ∙ append-nil (text_of (begun Two own_core own_cores answered)))
           ∙ ap (λ bs. text_of (begun Two own_core own_cores answered) ++ bs) last ∙ sym (spelling_is Two own_core own_cores answered)
-
--- the log as it is opened
-pub handed_over : (core cores : ℕ) (s : GivenLog) → core < cores → cores ≤ 64 → s.core ≡ core → s.cores ≡ cores → s.given ≡ false
-    → FollowsOn core cores (Some (text_left s.core s.cores s.records s.given)) (Some (text_left s.core s.cores s.records true)) (kept_at core cores s.records 0) []
-handed_over core cores s core_fits cores_fit core_is cores_is none = rw (core_is, cores_is, none) (
-  record {
-    core_is = refl;
-    cores_is = refl;
-    bytes = text_of (begun Two core cores []);
-    answered = record {
-      faultless = refl;
-      text = sym (append-nil (text_of (begun Two core cores [])));
-      sound = record { core_fits = core_fits; cores_fit = cores_fit; few = omega arith; each_fits = tt };
-      count = refl;
-      one = All-nil (λ b. (b == 10) ≡ false);
-      short = omega arith;
-    };
-    given = whole;
-  },
-  λ all. refl,
-)
-  where
-    whole : spelling Two core cores s.records ≡ (text_of (begun Two core cores []) ++ lines_from s.records 0) ++ []
-    whole = simp (flat_map-append, append_assoc, append-nil)
 
 -- nothing stands past the end alone
 pub nothing_from : {X : Type 0} (items : List X) (at : ℕ) → slice_get items at ≡ None → length items ≤ at

@@ -60,7 +60,7 @@ fn look<W: ByteSink, O: Order<W>>(
     }
     *fault = words.perform(entry);
     if fault.is_none() && clean {
-        return order.add(order_out, entry.id());
+        return order.add(order_out, entry.id);
     }
     Ok(())
 }

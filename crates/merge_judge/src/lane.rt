@@ -44,7 +44,7 @@ fn falls(earlier: &Option<Record>, later: &Option<Record>) -> bool
     ensures { result ≡ falls earlier.now later.now }
 {
     match (earlier, later) {
-        (Some(earlier), Some(later)) => (later.ts, later.rank) < (earlier.ts, earlier.rank),
+        (Some(earlier), Some(later)) => core_check::falls(earlier, later),
         _ => false,
     }
 }

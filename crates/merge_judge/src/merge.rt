@@ -90,7 +90,10 @@ impl<L: Reading> Merge<L> {
             return None;
         };
         let (place, index) = (CoreId::at(core), OpIndex::at(lane.merged()));
-        let entry = Entry::new(OpId { core: place, index }, front);
+        let entry = Entry {
+            logged: *front,
+            id: OpId { core: place, index },
+        };
         lane.advance(&mut readers[core]);
         let clean = lane.is_clean();
         self.fronts.set(core, front_number(lane.front(), core));

@@ -65,10 +65,10 @@ impl SourcedMemory {
         ensures { (done : List Entry) → Holds self.now.values.items self.now.sources.items done
             → result ≡ fault_after done entry.now }
     {
-        let addr = entry.addr().get() as usize;
+        let addr = entry.logged.addr.get() as usize;
         let (from, word) = (&self.sources[addr], self.values[addr]);
-        match &entry.act() {
-            Act::Load(source) => fault_by(entry, broken_by(source, entry.value(), from, word)),
+        match &entry.logged.act() {
+            Act::Load(source) => fault_by(entry, broken_by(source, entry.logged.value, from, word)),
             Act::Store => None,
             Act::Swap(source, read) => fault_by(entry, broken_by(source, *read, from, word)),
         }
@@ -85,9 +85,9 @@ impl SourcedMemory {
     {
         let fault = self.fault_of(entry);
         if is_store(entry) {
-            let addr = entry.addr().get() as usize;
-            self.values[addr] = entry.value();
-            self.sources[addr] = Source::Store(entry.id());
+            let addr = entry.logged.addr.get() as usize;
+            self.values[addr] = entry.logged.value;
+            self.sources[addr] = Source::Store(entry.id);
         }
         fault
     }

@@ -9,7 +9,7 @@ use super::scene::{Arrow, Card, Kind, Scene};
 use super::shown::{Shown, Wanted, id_of, pointed_by, shown_of};
 use core_program::print_instruction;
 use explain::{Departure, Explanation, WrongRead, named_id, place_of};
-use log_record::{Act, Entry};
+use log_record::{Act, Entry, print_line};
 use mem_op::OpId;
 use refuted_cases::Names;
 use std::alloc::{AllocError, Global};
@@ -87,7 +87,7 @@ struct Line<'a>(&'a Names, &'a Entry, &'a str);
 
 impl<'a> fmt::Display for Line<'a> {
     fn fmt<W: fmt::Write>(&self, f: &mut fmt::Formatter<W>) -> fmt::Result {
-        if let Some(name) = self.0.name_of(self.1.addr().get())
+        if let Some(name) = self.0.name_of(self.1.logged.addr.get())
             && let Some((act, fields)) = self.2.split_once(' ')
             && let Some((_, others)) = fields.split_once(' ')
         {
@@ -104,13 +104,13 @@ fn card_of(
     row: &Entry,
     faulty: Option<OpId>,
 ) -> Result<Card, AllocError> {
-    let (id, key) = (row.id(), row.key());
+    let (id, key) = (row.id, row.key());
     let is_wrong = faulty == Some(id);
-    let line = format!(in alloc; "{}", row.logged())?;
+    let line = print_line(alloc, &row.logged)?;
     let text = format!(in alloc; "{id}: {}", Line(names, row, line.as_str()))?;
     Ok(Card {
         core: id.core,
-        kind: match &row.act() {
+        kind: match &row.logged.act() {
             Act::Store => Kind::Store,
             Act::Load(_) => Kind::Load,
             Act::Swap(..) => Kind::Swap,
@@ -128,13 +128,7 @@ fn arrows(alloc: Global, shown: &Shown, why: &Explanation) -> Result<Vec<Arrow>,
     let mut arrows = Vec::new(alloc);
     let rows = shown.rows.as_slice();
     for row in rows {
-        push_arrow(
-            &mut arrows,
-            rows,
-            Kind::Named,
-            named_id(row),
-            Some(row.id()),
-        )?;
+        push_arrow(&mut arrows, rows, Kind::Named, named_id(row), Some(row.id))?;
     }
     if let Explanation::Load(found) = why {
         push_pointed(&mut arrows, rows, found)?;
@@ -155,7 +149,7 @@ fn push_pointed(
     rows: &[Entry],
     found: &WrongRead,
 ) -> Result<(), AllocError> {
-    let (pointed, load) = (id_of(&pointed_by(found)), Some(found.load.id()));
+    let (pointed, load) = (id_of(&pointed_by(found)), Some(found.load.id));
     match found.rule {
         Rule::Value => push_arrow(arrows, rows, Kind::SameWord, pointed, load),
         _ => push_arrow(

@@ -75,7 +75,7 @@ fn of_wrong_read(alloc: Global, found: &WrongRead) -> Result<Shown, AllocError>
     add(&mut rows, &pointed_by(found))?;
     Ok(Shown {
         rows: by_key(alloc, rows.as_slice())?,
-        faulty: Some(found.load.id()),
+        faulty: Some(found.load.id),
         wanted: id_of(&found.right).map(Wanted::Right),
         due: None,
     })
@@ -98,7 +98,7 @@ fn add(rows: &mut Vec<Entry>, entry: &Option<Entry>) -> Result<(), AllocError>
     let Some(entry) = entry else {
         return Ok(());
     };
-    if place_of(rows.as_slice(), entry.id()).is_none() {
+    if place_of(rows.as_slice(), entry.id).is_none() {
         rows.push(*entry)?;
     }
     Ok(())
@@ -110,8 +110,8 @@ fn of_fall(alloc: Global, fall: &Fall) -> Result<Shown, AllocError>
 {
     Ok(Shown {
         rows: by_key(alloc, fall.rows.as_slice())?,
-        faulty: Some(fall.fault.id()),
-        wanted: Some(Wanted::Before(fall.before.id())),
+        faulty: Some(fall.fault.id),
+        wanted: Some(Wanted::Before(fall.before.id)),
         due: None,
     })
 }
@@ -133,7 +133,7 @@ pub(crate) fn id_of(entry: &Option<Entry>) -> Option<OpId>
     ensures { result ≡ option_map (λ e. e.id) entry.now }
 {
     match entry {
-        Some(entry) => Some(entry.id()),
+        Some(entry) => Some(entry.id),
         None => None,
     }
 }

@@ -6,7 +6,7 @@ ghost use Rattle.tardis_c.specs.Operations.{IsOperation, act_of, record_of, sour
 
 use super::in_numbers::InNumbers;
 use line_stamps::{Rank, Stamp};
-use log_record::{Act, Record};
+use log_record::{Act, PackedAct, Record};
 use mem_op::{Addr, CoreId, OpId, OpIndex, Source};
 use merge_judge::Recorded;
 
@@ -126,6 +126,12 @@ impl Recorded for TardisOperation {
         let Ok(addr) = Addr::new(self.addr) else {
             unreachable!()
         };
-        Record::new(self.value, ts, rank, addr, &act_of(self))
+        Record {
+            value: self.value,
+            ts,
+            act: PackedAct::of(act_of(self)),
+            rank,
+            addr,
+        }
     }
 }

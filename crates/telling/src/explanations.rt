@@ -1,13 +1,13 @@
 //! An explanation of a verdict as text: a sentence, the facts behind it, and a table of what stands around.
 
 use super::findings::{at, first_sentence, push_culprit, push_times};
-use super::shown::{Bytes, Number, Plain, Written};
+use super::shown::{Number, Plain, Written};
 use core_program::print_instruction;
 use explain::{
     Departure, Explanation, Fall, FaultCounts, Summary, Use, WrongRead, kind_name, named_id,
     place_of,
 };
-use log_record::{Act, Entry, LineBuffer};
+use log_record::{Act, Entry, push_line};
 use mem_op::Word;
 use refuted_cases::Names;
 use std::alloc::{AllocError, Global};
@@ -35,25 +35,18 @@ pub fn print(
     Ok(text)
 }
 
-/// A record's line, and where it stands, in these files: the first record of a file is its second line. Where there is none, other words.
-#[derive(Clone, Copy)]
-struct Line<'n, 'e, 'w>(&'n [&'n str], Option<&'e Entry>, &'w str);
-
-impl<'n, 'e, 'w> Display for Line<'n, 'e, 'w> {
-    fn fmt<W: fmt::Write>(&self, f: &mut fmt::Formatter<W>) -> fmt::Result {
-        let Some(entry) = self.1 else {
-            return f.write_str(self.2);
-        };
-        let (core, number) = (entry.id().core.get(), entry.id().index.get() + 2);
-        write!(f, "file {core}")?;
-        if let Some(name) = self.0.get(core as usize) {
-            write!(f, " ({})", Plain(name))?;
-        }
-        let mut buffer = LineBuffer::new();
-        let line = buffer.line(&entry.logged());
-        let line = line.strip_suffix(b"\n").unwrap_or(line);
-        write!(f, " line {number}: {}", Bytes(line))
+/// Adds where a record stands in these files, and its line: the first record of a file is its second line. Where there is none, other words.
+fn push_line_of(text: &mut String, files: &[&str], entry: Option<&Entry>, none: &str) -> Written {
+    let Some(entry) = entry else {
+        return text.push_str(none);
+    };
+    let (core, number) = (entry.id.core.get(), entry.id.index.get() + 2);
+    write!(text, "file {core}")?;
+    if let Some(name) = files.get(core as usize) {
+        write!(text, " ({})", Plain(name))?;
     }
+    write!(text, " line {number}: ")?;
+    push_line(text, &entry.logged)
 }
 
 /// Adds the text of a load or a swap that breaks a rule.
@@ -77,15 +70,15 @@ fn push_lines(alloc: Global, files: &[&str], text: &mut String, found: &WrongRea
         None => String::from_str(alloc, "the initial 0"),
         Some(id) => format!(in alloc; "{id}, which isn't in the logs"),
     }?;
-    write!(
-        text,
-        "\n\nthe {}        {}\nit should read  {}\nit names        {}\nits last there  {}\n",
-        kind_name(&found.load),
-        Line(files, Some(&found.load), ""),
-        Line(files, found.right.as_ref(), "the initial 0"),
-        Line(files, found.named.as_ref(), unknown.as_str()),
-        Line(files, found.own_last.as_ref(), "none")
-    )
+    write!(text, "\n\nthe {}        ", kind_name(&found.load))?;
+    push_line_of(text, files, Some(&found.load), "")?;
+    text.push_str("\nit should read  ")?;
+    push_line_of(text, files, found.right.as_ref(), "the initial 0")?;
+    text.push_str("\nit names        ")?;
+    push_line_of(text, files, found.named.as_ref(), unknown.as_str())?;
+    text.push_str("\nits last there  ")?;
+    push_line_of(text, files, found.own_last.as_ref(), "none")?;
+    text.push('\n')
 }
 
 /// Adds how many operations break SOURCE or VALUE.
@@ -117,7 +110,7 @@ fn push_tables(text: &mut String, alloc: Global, names: &Names, found: &WrongRea
     )?;
     push_table(text, alloc, names, own, &found.load, true)?;
     match &found.right {
-        Some(right) if place_of(own, right.id()).is_none() => {
+        Some(right) if place_of(own, right.id).is_none() => {
             push_table(text, alloc, names, found.right_rows.as_slice(), right, true)
         }
         _ => Ok(()),
@@ -147,11 +140,13 @@ fn push_fall(files: &[&str], text: &mut String, fall: &Fall) -> Written {
     for count in &fall.by_core {
         faults = faults.saturating_add(*count);
     }
+    text.push_str("\n\nbefore it  ")?;
+    push_line_of(text, files, Some(&fall.before), "")?;
+    text.push_str("\nthe fault  ")?;
+    push_line_of(text, files, Some(&fall.fault), "")?;
     write!(
         text,
-        "\n\nbefore it  {}\nthe fault  {}\nfaults     {faults} CORE-ORDER\nof cores   {}\n",
-        Line(files, Some(&fall.before), ""),
-        Line(files, Some(&fall.fault), ""),
+        "\nfaults     {faults} CORE-ORDER\nof cores   {}\n",
         ByCore(fall.by_core.as_slice())
     )
 }
@@ -172,10 +167,11 @@ fn push_departure(
     }?;
     write!(
         text,
-        "\nregisters  {}\nfound      {}\n",
-        Registers(&departure.registers),
-        Line(files, departure.found.as_ref(), "the end of the log")
-    )
+        "\nregisters  {}\nfound      ",
+        Registers(&departure.registers)
+    )?;
+    push_line_of(text, files, departure.found.as_ref(), "the end of the log")?;
+    text.push('\n')
 }
 
 /// The registers that hold something else than 0.
@@ -255,14 +251,14 @@ struct Row<'a>(&'a Names, char, &'a Entry);
 impl<'a> Display for Row<'a> {
     fn fmt<W: fmt::Write>(&self, f: &mut fmt::Formatter<W>) -> fmt::Result {
         let (mark, entry) = (self.1, self.2);
-        let (id, key, kind) = (entry.id(), entry.key(), kind_name(entry));
-        let (stamp, rank, addr) = (key.ts.get(), key.rank.get(), at(self.0, entry.addr()));
+        let (id, key, kind) = (entry.id, entry.key(), kind_name(entry));
+        let (stamp, rank, addr) = (key.ts.get(), key.rank.get(), at(self.0, entry.logged.addr));
         write!(f, "{mark} {id}\t{stamp}\t{rank}\t{kind}\t{addr}\t")?;
-        if let Act::Swap(_, read) = &entry.act() {
+        if let Act::Swap(_, read) = &entry.logged.act() {
             write!(f, "{read} -> ")?;
         }
-        write!(f, "{}\t", entry.value())?;
-        match (named_id(entry), &entry.act()) {
+        write!(f, "{}\t", entry.logged.value)?;
+        match (named_id(entry), &entry.logged.act()) {
             (Some(source), _) => source.fmt(f),
             (None, Act::Store) => Ok(()),
             (None, _) => f.write_str("init"),
@@ -280,7 +276,7 @@ fn push_table(
     marked: &Entry,
     is_of_core: bool,
 ) -> Written {
-    let (core, addr) = (marked.id().core.get(), at(names, marked.addr()));
+    let (core, addr) = (marked.id.core.get(), at(names, marked.logged.addr));
     match is_of_core {
         true => write!(text, "\ncore {core} in program order:\n"),
         false => write!(text, "\naddress {addr} by key:\n"),
@@ -304,8 +300,8 @@ fn rows(
     let mut rows = String::from_str(alloc, HEADS)?;
     for entry in entries {
         let mark = match entry {
-            entry if entry.id() == marked.id() => '>',
-            entry if is_of_core && entry.addr() == marked.addr() => '*',
+            entry if entry.id == marked.id => '>',
+            entry if is_of_core && entry.logged.addr == marked.logged.addr => '*',
             _ => ' ',
         };
         write!(rows, "\n{}", Row(names, mark, entry))?;

@@ -41,7 +41,7 @@ fn push_wrong_read(text: &mut String, names: &Names, found: &WrongRead) -> Writt
             text.push_str(", but that is 0.")
         }
         (_, _, Some(named)) => {
-            let (load, addr) = (found.load.id(), at(names, found.load.addr()));
+            let (load, addr) = (found.load.id, at(names, found.load.logged.addr));
             write!(text, "{load} read address {addr} from {named}")?;
             push_wrong_source(text, names, found)
         }
@@ -54,9 +54,9 @@ fn push_wrong_read(text: &mut String, names: &Names, found: &WrongRead) -> Writt
 
 /// Adds that a load read another word than the store left which it should read.
 fn push_wrong_value(text: &mut String, names: &Names, load: &Entry, right: &Entry) -> Written {
-    let read = Number(load.logged().word_answered());
-    let (load, addr) = (load.id(), at(names, load.addr()));
-    let (store, stored) = (right.id(), Number(right.value()));
+    let read = Number(load.logged.word_answered());
+    let (load, addr) = (load.id, at(names, load.logged.addr));
+    let (store, stored) = (right.id, Number(right.logged.value));
     write!(
         text,
         "{load} read {read} from {store} at address {addr}, but {store} stored {stored} there."
@@ -65,8 +65,8 @@ fn push_wrong_value(text: &mut String, names: &Names, load: &Entry, right: &Entr
 
 /// Adds what a load or a swap read whose source is the initial word. That word is 0, but a log may have another.
 fn push_initial_read(text: &mut String, names: &Names, read: &Entry) -> Written {
-    let (load, addr) = (read.id(), at(names, read.addr()));
-    match Number(read.logged().word_answered()) {
+    let (load, addr) = (read.id, at(names, read.logged.addr));
+    match Number(read.logged.word_answered()) {
         Number(0) => write!(text, "{load} read the initial 0 of address {addr}"),
         word => write!(
             text,
@@ -80,12 +80,12 @@ fn push_wrong_source(text: &mut String, names: &Names, found: &WrongRead) -> Wri
     match (wrong_source(found), &found.named) {
         (None, _) => return push_last_store(text, &found.right, "after that"),
         (Some(""), Some(named)) => {
-            let addr = at(names, named.addr());
+            let addr = at(names, named.logged.addr);
             write!(text, ", which stores at address {addr}")
         }
         (Some(wrong), _) => text.push_str(wrong),
     }?;
-    let addr = at(names, found.load.addr());
+    let addr = at(names, found.load.logged.addr);
     match &found.right {
         None => write!(text, "; no store to address {addr} comes before it."),
         Some(right) => push_right(text, &addr, right),
@@ -94,7 +94,7 @@ fn push_wrong_source(text: &mut String, names: &Names, found: &WrongRead) -> Wri
 
 /// Adds the store that should have been read at an address.
 fn push_right(text: &mut String, addr: &At<'_>, right: &Entry) -> Written {
-    let (store, stored) = (right.id(), Number(right.value()));
+    let (store, stored) = (right.id, Number(right.logged.value));
     write!(
         text,
         "; the last store to address {addr} before it is {store}, of {stored}."
@@ -107,8 +107,8 @@ fn wrong_source(found: &WrongRead) -> Option<&'static str> {
     match &found.named {
         None => Some(", which isn't in the logs"),
         Some(named) if !is_store(named) => Some(", which is a load"),
-        Some(named) if named.id() == load.id() => Some(", which is its own store"),
-        Some(named) if named.addr() != load.addr() => Some(""),
+        Some(named) if named.id == load.id => Some(", which is its own store"),
+        Some(named) if named.logged.addr != load.logged.addr => Some(""),
         Some(named) if named.key() > load.key() => Some(", which comes after it"),
         Some(_) => None,
     }
@@ -119,7 +119,7 @@ fn push_last_store(text: &mut String, right: &Option<Entry>, when: &str) -> Writ
     match right {
         None => text.push_str(", and no store comes before it."),
         Some(right) => {
-            let (store, stored) = (right.id(), Number(right.value()));
+            let (store, stored) = (right.id, Number(right.logged.value));
             write!(text, ", but {store} had stored {stored} there {when}.")
         }
     }
@@ -127,7 +127,7 @@ fn push_last_store(text: &mut String, right: &Option<Entry>, when: &str) -> Writ
 
 /// Adds what falls along a core's log.
 fn push_fall(text: &mut String, fall: &Fall) -> Written {
-    let (id, before, after) = (fall.fault.id(), fall.before.key(), fall.fault.key());
+    let (id, before, after) = (fall.fault.id, fall.before.key(), fall.fault.key());
     let (stamp, to) = (before.ts.get(), after.ts.get());
     if to < stamp {
         return write!(text, "At {id} the stamp fell from {stamp} to {to}.");
@@ -144,7 +144,7 @@ fn push_departure(text: &mut String, names: &Names, departure: &Departure) -> Wr
     let (id, core) = (departure.id, departure.id.core.get());
     match &departure.found {
         None => write!(text, "The log of core {core} ends before {id}, where"),
-        Some(found) => write!(text, "{} {}, but", found.id(), Deed(names, &op_of(found))),
+        Some(found) => write!(text, "{} {}, but", found.id, Deed(names, &op_of(found))),
     }?;
     let there = if departure.found.is_some() {
         " there"
@@ -159,8 +159,8 @@ fn push_departure(text: &mut String, names: &Names, departure: &Departure) -> Wr
 
 /// What a record does to memory.
 fn op_of(entry: &Entry) -> Op {
-    let (addr, value) = (entry.addr(), entry.value());
-    match &entry.act() {
+    let (addr, value) = (entry.logged.addr, entry.logged.value);
+    match &entry.logged.act() {
         Act::Store => Op::Store(addr, value),
         Act::Load(_) => Op::Load(addr),
         Act::Swap(..) => Op::Swap(addr, value),
@@ -188,7 +188,7 @@ impl<'a> Display for Deed<'a> {
 pub(crate) fn push_culprit(text: &mut String, found: &WrongRead) -> Written {
     match (&found.culprit, &found.same_word) {
         (Some(first), _) if found.rule == Rule::Source && found.right != found.culprit => {
-            let (store, stamp) = (first.id(), first.key().ts.get());
+            let (store, stamp) = (first.id, first.key().ts.get());
             match named_id(&found.load) {
                 Some(named) => write!(text, "\nThe word of {named}"),
                 None => text.push_str("\nThe initial 0"),
@@ -196,7 +196,7 @@ pub(crate) fn push_culprit(text: &mut String, found: &WrongRead) -> Written {
             write!(text, " was overwritten first by {store}, at stamp {stamp}.")
         }
         (_, Some(last)) if found.rule == Rule::Value => {
-            let (word, store, stamp) = (Number(last.value()), last.id(), last.key().ts.get());
+            let (word, store, stamp) = (Number(last.logged.value), last.id, last.key().ts.get());
             write!(
                 text,
                 "\nThe last store of {word} there before it is {store}, at stamp {stamp}."
@@ -236,7 +236,9 @@ const WRONG: &str = "wrong too.";
 fn tie(found: &WrongRead) -> Option<(Entry, Entry)> {
     let load = found.load;
     if let Some(named) = found.named {
-        let is_after = named.addr() == load.addr() && is_store(&named) && named.key() > load.key();
+        let is_after = named.logged.addr == load.logged.addr
+            && is_store(&named)
+            && named.key() > load.key();
         if is_after && ties(&load, &named) {
             return Some((load, named));
         }
@@ -247,7 +249,7 @@ fn tie(found: &WrongRead) -> Option<(Entry, Entry)> {
 
 /// Adds that the numbers of the cores decide.
 fn push_tie(text: &mut String, first: &Entry, second: &Entry) -> Written {
-    let (one, other, key) = (first.id(), second.id(), first.key());
+    let (one, other, key) = (first.id, second.id, first.key());
     let (stamp, rank) = (key.ts.get(), key.rank.get());
     write!(
         text,
@@ -268,8 +270,8 @@ fn push_moved(
         return Ok(());
     };
     push_stamps(text, &found.load, store)?;
-    let other = store.id();
-    if other.core == found.load.id().core {
+    let other = store.id;
+    if other.core == found.load.id.core {
         write!(
             text,
             " Its own core made {other} {side} it, whatever the times."
@@ -281,7 +283,7 @@ fn push_moved(
 
 /// Adds how far the stamp of a load is from that of a store.
 fn push_stamps(text: &mut String, load: &Entry, store: &Entry) -> Written {
-    let (id, other) = (load.id(), store.id());
+    let (id, other) = (load.id, store.id);
     let (stamp, its) = (load.key().ts.get(), store.key().ts.get());
     let side = if its < stamp { "after" } else { "before" };
     match stamp.abs_diff(its) {

@@ -8,8 +8,8 @@ use Rattle.log_record.specs.declared.format.Format.{Format}
 use Rattle.log_record.specs.declared.format.Format.TheVariants.{One, Two}
 use Rattle.log_record.specs.declared.act.Act.{Act}
 use Rattle.log_record.specs.declared.act.Act.TheVariants as act
-use Rattle.log_record.specs.declared.reading.Letter.{Letter}
-use Rattle.log_record.specs.declared.reading.Letter.TheVariants as letter
+use Rattle.log_record.specs.declared.act.Kind.{Kind}
+use Rattle.log_record.specs.declared.act.Kind.TheVariants as kind
 use Rattle.log_record.specs.declared.record.Record.{Record}
 
 -- ---- records
@@ -34,19 +34,19 @@ fields_at bytes =
     field_at 32 bytes >>= λ addr. field_at 32 addr.1 >>= λ value. field_at 32 value.1 >>= λ ts. Some (record { addr = addr.0; value = value.0; ts = ts.0 }, ts.1)
 
 -- the letter that the line of a load or a swap begins with, and the bytes after the space that follows it
-unfoldable pub reading_letter_at : List ℕ → Option (Letter × List ℕ)
+unfoldable pub reading_letter_at : List ℕ → Option (Kind × List ℕ)
 reading_letter_at bytes =
-    if is_some (after (codes "L ") bytes) then (after (codes "L ") bytes >>= λ rest. Some (letter.Load, rest)) else (after (codes "X ") bytes >>= λ rest. Some (letter.Swap, rest))
+    if is_some (after (codes "L ") bytes) then (after (codes "L ") bytes >>= λ rest. Some (kind.Load, rest)) else (after (codes "X ") bytes >>= λ rest. Some (kind.Swap, rest))
 
-unfoldable pub letter_at : List ℕ → Option (Letter × List ℕ)
+unfoldable pub letter_at : List ℕ → Option (Kind × List ℕ)
 letter_at bytes =
-    if is_some (after (codes "S ") bytes) then (after (codes "S ") bytes >>= λ rest. Some (letter.Store, rest)) else reading_letter_at bytes
+    if is_some (after (codes "S ") bytes) then (after (codes "S ") bytes >>= λ rest. Some (kind.Store, rest)) else reading_letter_at bytes
 
 -- the act, from the bytes after the rank; a store has nothing there
-unfoldable pub act_at : Letter → List ℕ → Option (Act × List ℕ)
-act_at letter.Store bytes = Some (act.Store, bytes)
-act_at letter.Load bytes = after (codes " ") bytes >>= λ rest. source_at rest >>= λ s. Some (act.Load s.0, s.1)
-act_at letter.Swap bytes =
+unfoldable pub act_at : Kind → List ℕ → Option (Act × List ℕ)
+act_at kind.Store bytes = Some (act.Store, bytes)
+act_at kind.Load bytes = after (codes " ") bytes >>= λ rest. source_at rest >>= λ s. Some (act.Load s.0, s.1)
+act_at kind.Swap bytes =
     after (codes " ") bytes >>= λ rest. source_at rest >>= λ s. after (codes " ") s.1 >>= λ last. number_at last >>= λ read. Some (act.Swap s.0 read.0, read.1)
 
 abbrev pub made : Act → Fields → ℕ → Record

@@ -8,7 +8,7 @@ use Rattle.core_check.proofs.conforming.conforms.Goals as goal
 pub returns-then-not-is_issued-clause-fault : goal.returns-then-not-is_issued-clause-fault
 returns-then-not-is_issued-clause-fault g c =
     let log = g.L.Logged.records_of c.args.log.now in
-    let r = c.logged-logged.result in
+    let r = c.logged-logged.result.now in
     let here : slice_get log c.loop-i.i ≡ Some r = record_read g.L.Logged.record_of g.L.Logged.records_of g.met.L.Logged.each c.args.log.now c.loop-i.i c.index-log-i.result (omega arith) c.index-log-i.is ∙ ap (λ x. Some x) (sym c.logged-logged.ensures) in
     let other : is_issued (next_op c.args.program.now c.loop-i.state) (operation_of r) ≡ false =
     sym (c.is_issued.ensures ∙ ap (λ o. is_issued o (operation_of r)) c.next_op.ensures.next) ∙ c.if-not-is_issued.true in
@@ -26,7 +26,7 @@ returns-then-not-is_issued-clause-few g c = few_before c.args.program.now (map o
 pub loop-i-preserved : goal.loop-i-preserved
 loop-i-preserved g c =
     let log = g.L.Logged.records_of c.args.log.now in
-    let r = c.logged-logged.result in
+    let r = c.logged-logged.result.now in
     let here : slice_get log c.loop-i.i ≡ Some r = record_read g.L.Logged.record_of g.L.Logged.records_of g.met.L.Logged.each c.args.log.now c.loop-i.i c.index-log-i.result (omega arith) c.index-log-i.is ∙ ap (λ x. Some x) (sym c.logged-logged.ensures) in
     let same : is_issued (next_op c.args.program.now c.loop-i.state) (operation_of r) ≡ true =
     sym (c.is_issued.ensures ∙ ap (λ o. is_issued o (operation_of r)) c.next_op.ensures.next) ∙ c.if-not-is_issued.false in (

@@ -15,5 +15,5 @@ pub returns : goal.returns
 returns c =
     let es = c.args.self.now in
     let last = c.in-Some.last.now in
-    let more : HaveBelow (last.logged.addr + 1) c.push-2.new.self.items = rw (c.in_ok-push-2.ensures.items, c.get-end-2.ensures.value, c.addr-2.ensures) (have_more c.loop-number.spans.items c.loop-number.start (last.logged.addr + 1) c.loop-number.invariant) in
+    let more : HaveBelow (last.logged.addr + 1) c.push-2.new.self.items = rw (c.in_ok-push-2.ensures.items, c.get-end-2.ensures.value) (have_more c.loop-number.spans.items c.loop-number.start (last.logged.addr + 1) c.loop-number.invariant) in
     have_all es c.push-2.new.self.items last (addresses_rise es c.all-entries.ensures.ascends) (rw c.all-entries.ensures.value at c.in-Some.ensures.item.1) more

@@ -5,7 +5,7 @@ use Rattle.std.proofs.lemmas.Option.{slice_get_read}
 use Rattle.log_record.specs.declared.record.Record.{Record}
 use Rattle.merge_judge.specs.inner.Lanes.{IsFrontNumber, IsLaneAt}
 use Rattle.merge_judge.proofs.Merged.{both_true}
-use Rattle.merge_judge.proofs.Opening.{all_opened, opened_more, opened_none}
+use Rattle.merge_judge.proofs.Opening.{all_opened, opened_more}
 use Rattle.merge_judge.proofs.merge.Merge.new.Goals as goal
 
 pub loop-core-preserved : goal.loop-core-preserved

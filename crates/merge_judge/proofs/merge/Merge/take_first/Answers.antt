@@ -33,7 +33,7 @@ advance-requires-clause-faultless g c =
 pub returns : goal.returns
 returns g c = record {
   clean = λ h. (and_parts c.args.self.now.clean c.is_clean-clean.result h).0;
-  taken = rw (c.new-entry.ensures, c.at-place.ensures) (taken_there c.requires.1.1.1 c.first-core.result c.first-core.ensures.within c.first-core.ensures.least c.index_mut-lane.result.now c.index_mut-lane.ensures.value c.in-Some.front (sym c.front.ensures ∙ c.in-Some.is) c.advance.new.self);
+  taken = rw c.at-place.ensures (taken_there c.requires.1.1.1 c.first-core.result c.first-core.ensures.within c.first-core.ensures.least c.index_mut-lane.result.now c.index_mut-lane.ensures.value c.in-Some.front (sym c.front.ensures ∙ c.in-Some.is) c.advance.new.self);
   merged = λ before merged done m. (
       let core = c.first-core.result in
       let lane = c.index_mut-lane.result.now in
@@ -45,7 +45,7 @@ returns g c = record {
       let front = sym c.front.ensures ∙ c.in-Some.is in
       let source_is : slice_get readers core ≡ Some source = slice_get_read readers (length readers) core c.index-readers-core.result refl (omega (arith, m.all.readers, m.all.fronts, within)) c.index-readers-core.is ∙ ap (λ s. Some s) c.index-readers-core.is in
       let index_is = c.at-index.ensures ∙ c.merged.ensures ∙ count_is m core within least lane value c.in-Some.front front in
-      rw (c.new-entry.ensures, c.at-place.ensures, index_is, c.set.ensures) (merged_more m core within least lane value c.in-Some.front front source c.advance.new.source source_is c.advance.new.self c.front_number.result (c.args.self.now.clean && c.is_clean-clean.result)
+      rw (c.at-place.ensures, index_is, c.set.ensures) (merged_more m core within least lane value c.in-Some.front front source c.advance.new.source source_is c.advance.new.self c.front_number.result (c.args.self.now.clean && c.is_clean-clean.result)
       c.advance.ensures.advanced c.advance.ensures.falls (subst (λ (o : Option Record). IsFrontNumber core o c.front_number.result) c.front-2.ensures c.front_number.ensures)
       (both_true c.args.self.now.clean c.is_clean-clean.result c.is_clean-clean.ensures)));
 }
