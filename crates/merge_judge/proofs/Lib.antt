@@ -4,7 +4,6 @@ pub mod Begins
 pub mod Falls
 pub mod Following
 pub mod LaneFacts
-pub mod Matches
 pub mod Places
 pub mod Merged
 pub mod WordFacts

@@ -17,8 +17,7 @@ use Rattle.log_record.specs.Entries.{entry_cmp, entries}
 use Rattle.address_check.proofs.Totals.{entry_total}
 use Rattle.verdict.proofs.Lists.{set_here, set_elsewhere}
 use Rattle.merge_judge.specs.LaneParts.{LaneParts}
-use Rattle.merge_judge.specs.inner.Matches.{IsLeastAt}
-use Rattle.merge_judge.specs.inner.Lanes.{AllEnded, AreLanes, AreSound, ComeBefore, IsFrontNumber, IsLaneAt, IsLaneOf, IsMerged, IsSound, IsStage, IsTaken, NoFalls, add, entry_at, front_list, log_at}
+use Rattle.merge_judge.specs.inner.Lanes.{AllEnded, AreLanes, AreSound, ComeBefore, IsFrontNumber, IsLaneAt, IsLaneOf, IsLeastAt, IsMerged, IsSound, IsStage, IsTaken, NoFalls, add, entry_at, front_list, log_at}
 use Rattle.merge_judge.proofs.Added.{add_here, add_long, add_other, by_key_more, entries_more}
 use Rattle.merge_judge.proofs.Falls.{fall_here_is}
 use Rattle.merge_judge.proofs.LaneFacts.{few_answered}
@@ -135,6 +134,7 @@ module _ {S : Type 0} {remaining : S → Option (List ℕ)} {failed : S → ℕ}
       lanes_are : AreLanes remaining failed before (slice_set after core source_new) (length before) lanes_new (slice_set numbers core n) clean_new logs_new
       lanes_are = record {
         readers = length-set after core source_new ∙ m.all.readers;
+        some = m.all.some;
         few = m.all.few;
         logs = add_long merged core r ∙ m.all.logs;
         many = length-set lanes core lane_new ∙ m.all.many;

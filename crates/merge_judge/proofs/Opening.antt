@@ -34,6 +34,7 @@ pub opened_more : {S : Type 0} {remaining : S → Option (List ℕ)} {failed : S
 opened_more {S} {remaining} {failed} {before} {after} {n} {lanes} {numbers} {clean} h source source_new source_is lane number clean_new at number_is clean_is = record {
   all = record {
     readers = length-set after n source_new ∙ h.all.readers;
+    some = h.all.some;
     few = h.all.few;
     logs = h.all.logs;
     many = omega (arith, length_push lanes lane, h.all.many);

@@ -1,6 +1,5 @@
 pub mod Answer
 pub mod Begun
-pub mod Kept
 pub mod LaneParts
 pub mod LogKept
 pub mod OpenedLog

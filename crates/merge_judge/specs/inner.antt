@@ -3,7 +3,6 @@ pub mod Following
 pub mod Given
 pub mod Judging
 pub mod Lanes
-pub mod Matches
 pub mod Merging
 pub mod FinalVerdict
 pub mod Memory

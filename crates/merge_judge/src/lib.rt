@@ -14,7 +14,6 @@ mod record_judging;
 mod record_slice;
 mod record_source;
 mod sourced_memory;
-mod tournament;
 
 pub use judging::{merge_judge, merged_verdict};
 pub use merge_fault::MergeFault;

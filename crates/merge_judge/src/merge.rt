@@ -3,12 +3,11 @@
 ghost use Rattle.std.specs.Prelude.{◌≡◌, ◌<◌, ◌≤◌, ◌∷◌, ◌++◌, ℕ, List, [], Some, None, IfOk, MatchOption, length, true};
 ghost use Rattle.log_record.specs.declared.record.Record.{Record};
 ghost use Rattle.log_record.specs.declared.record.Entry.{Entry};
-ghost use Rattle.merge_judge.specs.inner.Lanes.{AllEnded, IsFrontNumber, IsTaken, add};
+ghost use Rattle.merge_judge.specs.inner.Lanes.{AllEnded, IsFrontNumber, IsLeastAt, IsTaken, add};
 ghost use Rattle.merge_judge.specs.inner.Merging.{Fit, HasMerged, IsMerging, none_of};
 
 use super::lane::Lane;
 use super::record_source::{Reading, RecordSource};
-use super::tournament::Tournament;
 use log_record::{Entry, Record};
 use mem_op::{CoreId, OpId, OpIndex};
 use std::alloc::{AllocError, Global};
@@ -19,7 +18,7 @@ pub(crate) struct Merge<L: Reading> {
     /// The logs, one for each core.
     pub(crate) lanes: Vec<Lane<L>>,
     /// The numbers of their fronts.
-    pub(crate) fronts: Tournament,
+    pub(crate) fronts: Vec<u128>,
     /// Whether no log has a fault so far.
     pub(crate) clean: bool,
 }
@@ -38,6 +37,21 @@ fn front_number(front: &Option<Record>, core: usize) -> u128
         }
         None => u128::MAX,
     }
+}
+
+/// The place of the least number, the first one if they tie.
+fn least(numbers: &[u128]) -> usize
+    requires { 0 < length numbers.now }
+    ensures within { result < length numbers.now }
+    ensures least { IsLeastAt numbers.now result }
+{
+    let mut least = 0;
+    for place in 1..numbers.len() {
+        if numbers[place] < numbers[least] {
+            least = place;
+        }
+    }
+    least
 }
 
 impl<L: Reading> Merge<L> {
@@ -62,10 +76,9 @@ impl<L: Reading> Merge<L> {
             numbers.push(front_number(lane.front(), core))?;
             lanes.push(lane)?;
         }
-        let fronts = Tournament::new(alloc, numbers)?;
         Ok(Merge {
             lanes,
-            fronts,
+            fronts: numbers,
             clean,
         })
     }
@@ -84,7 +97,7 @@ impl<L: Reading> Merge<L> {
             (λ entry. HasMerged S.remaining S.failed before readers.new self.new
             (add merged entry.id.core entry.logged) (done ++ entry ∷ [])) }
     {
-        let core = self.fronts.first();
+        let core = least(&self.fronts);
         let lane = &mut self.lanes[core];
         let Some(front) = lane.front() else {
             return None;
@@ -96,7 +109,7 @@ impl<L: Reading> Merge<L> {
         };
         lane.advance(&mut readers[core]);
         let clean = lane.is_clean();
-        self.fronts.set(core, front_number(lane.front(), core));
+        self.fronts[core] = front_number(lane.front(), core);
         self.clean &= clean;
         Some(entry)
     }

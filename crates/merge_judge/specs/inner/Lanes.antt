@@ -84,6 +84,10 @@ ComeBefore done lanes merged =
     (x : Entry) → In x done → (k : ℕ) (lane : LaneParts) (r : Record) → slice_get lanes k ≡ Some lane → lane.front ≡ Some r
     → is_lt (entry_cmp x (entry_at k (length (log_at merged k)) r)) ≡ true
 
+-- no number is less than the one at this place
+abbrev pub IsLeastAt : List ℕ → ℕ → Type 0
+IsLeastAt numbers place = (k : ℕ) → k < length numbers → slice_index numbers place ≤ slice_index numbers k
+
 -- all logs have ended
 abbrev pub AllEnded : List LaneParts → Type 0
 AllEnded lanes = (k : ℕ) (lane : LaneParts) → slice_get lanes k ≡ Some lane → lane.front ≡ None
@@ -99,6 +103,7 @@ pub record IsLaneOf {S : Type 0} (remaining : S → Option (List ℕ)) (failed :
 -- the first n logs are merged up to and including these records; `clean` says whether no fault was found in them
 pub record AreLanes {S : Type 0} (remaining : S → Option (List ℕ)) (failed : S → ℕ) (before after : List S) (n : ℕ) (lanes : List LaneParts) (numbers : List ℕ) (clean : Bool) (merged : List (List Record)) : Type 0 where
   pub readers : length after ≡ length before
+  pub some : 0 < length before
   pub few : length before ≤ 64
   pub logs : length merged ≡ length before
   pub many : length lanes ≡ n

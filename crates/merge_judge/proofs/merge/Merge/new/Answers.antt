@@ -29,4 +29,4 @@ loop-core-preserved g c =
 pub returns : goal.returns
 returns g c =
     let loop = c.loop-core in
-    rw c.in_ok-fronts.ensures (all_opened loop.invariant.opened (omega (arith, c.loop-core-test.false, loop.auto.core-end)))
+    all_opened loop.invariant.opened (omega (arith, c.loop-core-test.false, loop.auto.core-end))
