@@ -9,7 +9,7 @@ ghost use Rattle.log_file.specs.Log.{HasEach, IsLog, spelling, with_lf};
 use super::byte_sink::{ByteSink, write_all};
 use super::device_fault::WriteFault;
 use super::write_fault::LogWriteFault;
-use log_record::{Act, Format, Record, print_end, print_header, push_line};
+use log_record::{Act, Format, Record, print_end, print_header};
 use mem_op::{CoreId, Source};
 use std::alloc::Global;
 
@@ -103,7 +103,7 @@ fn write_record<W: ByteSink>(
         (W.failed sink.old) (W.failed sink.new) }
 {
     line.clear();
-    push_line(line, logged)?;
+    write!(line, "{logged}")?;
     write_line(sink, line)
 }
 

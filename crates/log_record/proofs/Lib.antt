@@ -2,6 +2,5 @@ pub mod Ends
 pub mod EntryFacts
 pub mod Kept
 pub mod Lines
-pub mod Printing
 pub mod Records
 pub mod SourceNumbers

@@ -7,13 +7,12 @@ use Rattle.mem_op.specs.declared.id.Source.{Source}
 use Rattle.mem_op.specs.declared.id.Source.TheVariants as source
 use Rattle.log_record.specs.declared.act.Act.{Act}
 use Rattle.log_record.specs.declared.act.Act.TheVariants as act
-use Rattle.log_record.specs.declared.act.Kind.{Kind}
-use Rattle.log_record.specs.declared.act.Kind.TheVariants as kind
+use Rattle.log_record.specs.declared.reading.Kind.{Kind}
+use Rattle.log_record.specs.declared.reading.Kind.TheVariants as kind
 use Rattle.log_record.specs.declared.record.Record.{Record}
 use Rattle.decimal_text.specs.Numbers.{numeral}
 use Rattle.decimal_text.specs.Reading.{◌>>=◌, number_at, after, field_at, is_digit}
 use Rattle.log_record.specs.Line.{source_text, record_text}
-use Rattle.log_record.specs.inner.PackedActs.{kind_of}
 use Rattle.log_record.specs.inner.Reading.{store_source_at, source_at, Fields, fields_at, letter_at, reading_letter_at, act_at, made, lettered_at, record_of}
 use Rattle.decimal_text.proofs.Numbers.{NoDigit, number_takes, number_again, after_takes, after_again, AreDigits, numeral_digits, numeral_some}
 use Rattle.decimal_text.proofs.Reading.{bind_some, some_is, whole_some, field_takes, field_again}
@@ -80,8 +79,13 @@ unfolding fields_at
 fields_again f rest =
     rw (field_again 32 f.addr (numeral f.value ++ (32 ∷ (numeral f.ts ++ (32 ∷ rest)))) refl, field_again 32 f.value (numeral f.ts ++ (32 ∷ rest)) refl, field_again 32 f.ts rest refl) refl
 
+abbrev kind_of : Act → Kind
+kind_of (act.Load s) = kind.Load
+kind_of act.Store = kind.Store
+kind_of (act.Swap s read) = kind.Swap
+
 -- what a record's line begins with, with bytes after it
-abbrev pub letter_text : Kind → List ℕ → List ℕ
+abbrev letter_text : Kind → List ℕ → List ℕ
 letter_text kind.Store rest = 83 ∷ 32 ∷ rest
 letter_text kind.Load rest = 76 ∷ 32 ∷ rest
 letter_text kind.Swap rest = 88 ∷ 32 ∷ rest

@@ -1,5 +1,4 @@
 -- Definitions that serve private contracts alone.
 pub mod Kept
 pub mod PackedActs
-pub mod Printing
 pub mod Reading

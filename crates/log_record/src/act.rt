@@ -18,69 +18,54 @@ pub enum Act {
     Swap(Source, Word),
 }
 
-/// Which kind of act.
+/// An act whose source is packed.
 #[derive(Clone, Copy, Debug, PartialEq, Eq)]
-pub(crate) enum Kind {
-    Load,
+enum Packed {
+    Load(PackedSource),
     Store,
-    Swap,
+    Swap(PackedSource, Word),
 }
 
-/// An act in 16 bytes, where an `Act` takes 32.
+/// An act in 24 bytes, where an `Act` takes 32.
 #[derive(Clone, Copy, Debug, PartialEq, Eq)]
 pub struct PackedAct {
-    /// The word that a swap read, or 0.
-    read: Word,
-    /// The source that a load or a swap names, or Init.
-    source: PackedSource,
-    kind: Kind,
+    packed: Packed,
 }
 
 impl Model for PackedAct {
-    ghost use Rattle.log_record.specs.inner.PackedActs.{act_by, IsPacked, kind_of, kind_of-act_by, read_in, source_in};
+    ghost use Rattle.log_record.specs.inner.PackedActs.{act_of, packed_of, packed_of-act_of};
     ghost use Rattle.log_record.specs.declared.act.Act.{Act};
 
     ghost Value = { Act };
 
-    ghost view = { λ a. act_by a.kind a.source a.read };
+    ghost view = { λ a. act_of a.packed };
 
-    ghost invariant = { λ a. IsPacked a.kind a.source a.read };
+    ghost inverse = { λ act. record { packed = packed_of act } };
 
-    ghost inverse = { λ a. record { read = read_in a; source = source_in a; kind = kind_of a } };
-
-    ghost inverse_ok = { λ a h i. record {
-      read = h.same_read i;
-      source = h.same_source i;
-      kind = kind_of-act_by a.kind a.source a.read i;
-    } };
+    ghost inverse_ok = { λ a h i. record { packed = packed_of-act_of a.packed i } };
 }
 
 impl PackedAct {
-    /// An act in 16 bytes.
-    #[inline(always)]
+    /// An act in 24 bytes.
     pub fn of(act: Act) -> PackedAct
         ensures { result ≡ act }
     {
-        let (kind, source, read) = match act {
-            Act::Load(source) => (Kind::Load, source, 0),
-            Act::Store => (Kind::Store, Source::Init, 0),
-            Act::Swap(source, read) => (Kind::Swap, source, read),
+        let packed = match act {
+            Act::Load(source) => Packed::Load(PackedSource::of(&source)),
+            Act::Store => Packed::Store,
+            Act::Swap(source, read) => Packed::Swap(PackedSource::of(&source), read),
         };
-        PackedAct {
-            read,
-            source: PackedSource::of(&source),
-            kind,
-        }
+        PackedAct { packed }
     }
 
     /// The act.
-    pub fn act(self) -> Act
-        ensures { result ≡ self }
+    pub fn act(&self) -> Act
+        ensures { result ≡ self.now }
     {
-        match self.kind {
-            Kind::Load => Act::Load(self.source.source()),
-            Kind::Store => Act::Store,
-            Kind::Swap => Act::Swap(self.source.source(), self.read),
+        match &self.packed {
+            Packed::Load(source) => Act::Load(source.source()),
+            Packed::Store => Act::Store,
+            Packed::Swap(source, read) => Act::Swap(source.source(), *read),
         }
     }
 }

@@ -18,6 +18,6 @@ pub use fault::LineFault;
 pub use format::Format;
 pub use header::{Header, print_header, read_header};
 pub use laws::{no_line_is_anothers, no_record_is_long, one_record_a_line};
-pub use line::{print_line, push_line, read_line};
+pub use line::{print_line, read_line};
 pub use record::{Entry, Record};
 pub use source_numbers::{source_number, store_number};

@@ -1,9 +1,7 @@
 //! A record's line, written and read.
 
-ghost use Rattle.std.specs.Prelude.{◌≡◌, ◌∷◌, ◌++◌, IfOk, IsErrOf, IsTrue, OnOk, string_bytes};
-ghost use Rattle.decimal_text.specs.Numbers.{numeral};
-ghost use Rattle.log_record.specs.Line.{last_fields, record_text, source_text, tag, has_act, IsRecordShape, Fits, FitsIn};
-ghost use Rattle.log_record.specs.inner.Printing.{spaced};
+ghost use Rattle.std.specs.Prelude.{◌≡◌, IfOk, IsErrOf, IsTrue, Some, string_bytes};
+ghost use Rattle.log_record.specs.Line.{record_text, source_text, has_act, IsRecordShape, Fits, FitsIn};
 ghost use Rattle.log_record.specs.declared.record.Record.{Record};
 
 use super::act::Act;
@@ -11,84 +9,62 @@ use super::fault::LineFault;
 use super::format::Format;
 use super::reading::whole_record;
 use super::record::Record;
-use itoa::Buffer;
 use mem_op::Source;
 use std::alloc::{AllocError, Global};
+use std::fmt;
+use std::fmt::Display;
 
-/// Adds a space and a number to a text.
-#[tactic(auto, using(decimal_text::proofs::Printing::numeral_decimal, std::proofs::Common::append_assoc))]
-fn push_field(text: &mut String, number: u64) -> Result<(), AllocError>
-    ensures { OnOk result (string_bytes text.new ≡ string_bytes text.old ++ 32 ∷ numeral number) }
-{
-    text.push(' ')?;
-    text.push_str(Buffer::new().format(number))?;
-    Ok(())
+/// The text of a source: `init`, or the core and the index of a store.
+#[derive(Clone, Copy)]
+struct SourceText {
+    source: Source,
 }
 
-/// Adds a space and a source to a text.
-#[tactic(auto, using(decimal_text::proofs::Printing::numeral_decimal, std::proofs::Common::append_assoc))]
-fn push_source(text: &mut String, source: &Source) -> Result<(), AllocError>
-    ensures { OnOk result
-        (string_bytes text.new ≡ string_bytes text.old ++ 32 ∷ source_text source.now) }
-{
-    match source {
-        Source::Init => text.push_str(" init"),
-        Source::Store(id) => {
-            push_field(text, id.core.get())?;
-            text.push('.')?;
-            text.push_str(Buffer::new().format(id.index.get()))?;
-            Ok(())
+impl Display for SourceText {
+    ghost output = { λ s. Some (source_text s.source) };
+
+    #[tactic(auto, using(decimal_text::proofs::Printing::numeral_decimal))]
+    fn fmt<W: fmt::Write>(&self, f: &mut fmt::Formatter<W>) -> fmt::Result {
+        match &self.source {
+            Source::Init => f.write_str("init"),
+            Source::Store(id) => {
+                let core = id.core.get();
+                let index = id.index.get();
+                write!(f, "{core}.{index}")
+            }
         }
     }
 }
 
-/// Adds to a text what comes after the rank: the source of a load or a swap, and the word that a swap read.
-#[tactic(auto, using(std::proofs::Common::append_assoc, crate::proofs::Printing::no_more))]
-fn push_act(text: &mut String, act: &Act) -> Result<(), AllocError>
-    ensures { OnOk result (string_bytes text.new ≡ string_bytes text.old ++ spaced (last_fields act.now)) }
-{
-    match act {
-        Act::Store => Ok(()),
-        Act::Load(source) => push_source(text, source),
-        Act::Swap(source, read) => {
-            push_source(text, source)?;
-            push_field(text, *read)
+/// Its line in a log, without its line feed.
+impl Display for Record {
+    ghost output = { λ r. Some (record_text r) };
+
+    #[tactic(auto, using(decimal_text::proofs::Printing::numeral_decimal), unfolding(crate::specs::Line::record_text))]
+    fn fmt<W: fmt::Write>(&self, f: &mut fmt::Formatter<W>) -> fmt::Result {
+        let addr = self.addr.get();
+        let value = self.value;
+        let ts = self.ts.get();
+        let rank = self.rank.get();
+        match self.act() {
+            Act::Store => write!(f, "S {addr} {value} {ts} {rank}"),
+            Act::Load(source) => {
+                let source = SourceText { source };
+                write!(f, "L {addr} {value} {ts} {rank} {source}")
+            }
+            Act::Swap(source, read) => {
+                let source = SourceText { source };
+                write!(f, "X {addr} {value} {ts} {rank} {source} {read}")
+            }
         }
     }
-}
-
-/// The letter of an act.
-fn letter(act: &Act) -> &'static str
-    ensures { result.now ≡ tag act.now }
-{
-    match act {
-        Act::Store => "S",
-        Act::Load(_) => "L",
-        Act::Swap(..) => "X",
-    }
-}
-
-/// Adds the line of a record, without its line feed, to a text. Err if memory was refused.
-#[tactic(auto, using(crate::proofs::Printing::line_is))]
-pub fn push_line(text: &mut String, logged: &Record) -> Result<(), AllocError>
-    ensures { OnOk result (string_bytes text.new ≡ string_bytes text.old ++ record_text logged.now) }
-{
-    let act = &logged.act();
-    text.push_str(letter(act))?;
-    push_field(text, u64::from(logged.addr.get()))?;
-    push_field(text, logged.value)?;
-    push_field(text, logged.ts.get())?;
-    push_field(text, u64::from(logged.rank.get()))?;
-    push_act(text, act)
 }
 
 /// The line of a record, without its line feed. Err if memory was refused.
 pub fn print_line(alloc: Global, logged: &Record) -> Result<String, AllocError>
     ensures { IfOk result (λ line. string_bytes line ≡ record_text logged.now) }
 {
-    let mut line = String::new(alloc);
-    push_line(&mut line, logged)?;
-    Ok(line)
+    logged.to_string(alloc)
 }
 
 // Whether a record's line may begin like this in a log of this format: one of format 1 has no swaps.

@@ -11,11 +11,19 @@ ghost use Rattle.log_record.specs.declared.record.Record.{Record};
 ghost use Rattle.log_record.specs.inner.Kept.{source_kept, act_kept, record_kept};
 ghost use Rattle.log_record.specs.inner.Reading.{store_source_at, source_at, letter_at, act_at, lettered_at, record_of};
 
-use super::act::{Act, Kind, PackedAct};
+use super::act::{Act, PackedAct};
 use super::record::Record;
 use decimal_text::{after_text, read_field, read_number};
 use line_stamps::{Rank, Stamp};
 use mem_op::{Addr, CoreId, OpId, OpIndex, Source};
+
+/// Which kind of act.
+#[derive(Clone, Copy, Debug, PartialEq, Eq)]
+enum Kind {
+    Load,
+    Store,
+    Swap,
+}
 
 /// The store of this core and index, if they are in range.
 #[inline(always)]
@@ -53,7 +61,7 @@ fn source(bytes: &[u8]) -> Option<(Option<Source>, &[u8])>
     }
 }
 
-/// The letter with which a record's line begins, and the bytes after its space.
+/// The kind that a record's first letter tells, and the bytes after its space.
 #[inline(always)]
 #[tactic(auto, unfolding(crate::specs::inner::Reading::letter_at, crate::specs::inner::Reading::reading_letter_at, decimal_text::specs::Reading::after))]
 fn first_letter(bytes: &[u8]) -> Option<(Kind, &[u8])>

@@ -65,8 +65,8 @@ impl PackedSource {
     }
 
     /// The source.
-    pub(crate) fn source(self) -> Source
-        ensures { result ≡ self }
+    pub(crate) fn source(&self) -> Source
+        ensures { result ≡ self.now }
     {
         if self.number == 0 {
             return Source::Init;

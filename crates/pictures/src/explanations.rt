@@ -9,7 +9,7 @@ use super::scene::{Arrow, Card, Kind, Scene};
 use super::shown::{Shown, Wanted, id_of, pointed_by, shown_of};
 use core_program::print_instruction;
 use explain::{Departure, Explanation, WrongRead, named_id, place_of};
-use log_record::{Act, Entry, print_line};
+use log_record::{Act, Entry};
 use mem_op::OpId;
 use refuted_cases::Names;
 use std::alloc::{AllocError, Global};
@@ -106,7 +106,7 @@ fn card_of(
 ) -> Result<Card, AllocError> {
     let (id, key) = (row.id, row.key());
     let is_wrong = faulty == Some(id);
-    let line = print_line(alloc, &row.logged)?;
+    let line = row.logged.to_string(alloc)?;
     let text = format!(in alloc; "{id}: {}", Line(names, row, line.as_str()))?;
     Ok(Card {
         core: id.core,

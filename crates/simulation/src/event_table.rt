@@ -131,26 +131,16 @@ fn row_cells(
     Ok(cells)
 }
 
-/// What came of an event: after an operation, its record as a log has it.
-fn outcome_text(
-    alloc: Global,
-    outcome: &Outcome,
-    made: Option<&Record>,
-) -> Result<String, AllocError> {
-    let mut text = OutcomeText { outcome }.to_string(alloc)?;
-    if let Some(record) = made {
-        text.push(' ')?;
-        log_record::push_line(&mut text, record)?;
-    }
-    Ok(text)
-}
-
 /// The cells that tell what came of an event.
 fn told_cells(alloc: Global, step: &Step<'_>) -> Result<StringRecord, AllocError> {
     let mut cells = StringRecord::new(alloc);
     let unit = unit_of(step.machine, step.event);
     let made = made_by(unit, step.outcome);
-    push_text(&mut cells, &outcome_text(alloc, step.outcome, made)?)?;
+    let outcome = OutcomeText {
+        outcome: step.outcome,
+        made,
+    };
+    push_text(&mut cells, &outcome.to_string(alloc)?)?;
     push_line(alloc, &mut cells, step, unit, addr_of(step, made))?;
     match unit {
         Some(unit) => {

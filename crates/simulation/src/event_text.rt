@@ -3,21 +3,26 @@
 use super::command::Command;
 use core_unit::Outcome;
 use line_stamps::{Line, Message, Recall, Reply, Stamp};
+use log_record::Record;
 use mem_op::Source;
 use std::fmt;
 use std::fmt::Display;
 
-/// The outcome of an event.
+/// The outcome of an event, and the record of the operation that it performed, if it performed one.
 #[derive(Clone, Copy)]
 pub(crate) struct OutcomeText<'a> {
     pub(crate) outcome: &'a Outcome,
+    pub(crate) made: Option<&'a Record>,
 }
 
-/// Its name, and what it tells: for an operation, its id.
+/// Its name, and what it tells: for an operation, its id and its record as a log has it.
 impl<'a> Display for OutcomeText<'a> {
     fn fmt<W: fmt::Write>(&self, f: &mut fmt::Formatter<W>) -> fmt::Result {
         match self.outcome {
-            Outcome::Performed(id) => write!(f, "Performed {id}"),
+            Outcome::Performed(id) => match self.made {
+                Some(record) => write!(f, "Performed {id} {record}"),
+                None => write!(f, "Performed {id}"),
+            },
             Outcome::Dropped(addr) => write!(f, "Dropped {}", addr.get()),
             Outcome::Sent(message) => write!(f, "Sent {}", MessageText { message }),
             Outcome::Ended => f.write_str("Ended"),

@@ -7,7 +7,7 @@ use explain::{
     Departure, Explanation, Fall, FaultCounts, Summary, Use, WrongRead, kind_name, named_id,
     place_of,
 };
-use log_record::{Act, Entry, push_line};
+use log_record::{Act, Entry};
 use mem_op::Word;
 use refuted_cases::Names;
 use std::alloc::{AllocError, Global};
@@ -35,18 +35,22 @@ pub fn print(
     Ok(text)
 }
 
-/// Adds where a record stands in these files, and its line: the first record of a file is its second line. Where there is none, other words.
-fn push_line_of(text: &mut String, files: &[&str], entry: Option<&Entry>, none: &str) -> Written {
-    let Some(entry) = entry else {
-        return text.push_str(none);
-    };
-    let (core, number) = (entry.id.core.get(), entry.id.index.get() + 2);
-    write!(text, "file {core}")?;
-    if let Some(name) = files.get(core as usize) {
-        write!(text, " ({})", Plain(name))?;
+/// A record's line, and where it stands, in these files: the first record of a file is its second line. Where there is none, other words.
+#[derive(Clone, Copy)]
+struct Line<'n, 'e, 'w>(&'n [&'n str], Option<&'e Entry>, &'w str);
+
+impl<'n, 'e, 'w> Display for Line<'n, 'e, 'w> {
+    fn fmt<W: fmt::Write>(&self, f: &mut fmt::Formatter<W>) -> fmt::Result {
+        let Some(entry) = self.1 else {
+            return f.write_str(self.2);
+        };
+        let (core, number) = (entry.id.core.get(), entry.id.index.get() + 2);
+        write!(f, "file {core}")?;
+        if let Some(name) = self.0.get(core as usize) {
+            write!(f, " ({})", Plain(name))?;
+        }
+        write!(f, " line {number}: {}", entry.logged)
     }
-    write!(text, " line {number}: ")?;
-    push_line(text, &entry.logged)
 }
 
 /// Adds the text of a load or a swap that breaks a rule.
@@ -70,15 +74,15 @@ fn push_lines(alloc: Global, files: &[&str], text: &mut String, found: &WrongRea
         None => String::from_str(alloc, "the initial 0"),
         Some(id) => format!(in alloc; "{id}, which isn't in the logs"),
     }?;
-    write!(text, "\n\nthe {}        ", kind_name(&found.load))?;
-    push_line_of(text, files, Some(&found.load), "")?;
-    text.push_str("\nit should read  ")?;
-    push_line_of(text, files, found.right.as_ref(), "the initial 0")?;
-    text.push_str("\nit names        ")?;
-    push_line_of(text, files, found.named.as_ref(), unknown.as_str())?;
-    text.push_str("\nits last there  ")?;
-    push_line_of(text, files, found.own_last.as_ref(), "none")?;
-    text.push('\n')
+    write!(
+        text,
+        "\n\nthe {}        {}\nit should read  {}\nit names        {}\nits last there  {}\n",
+        kind_name(&found.load),
+        Line(files, Some(&found.load), ""),
+        Line(files, found.right.as_ref(), "the initial 0"),
+        Line(files, found.named.as_ref(), unknown.as_str()),
+        Line(files, found.own_last.as_ref(), "none")
+    )
 }
 
 /// Adds how many operations break SOURCE or VALUE.
@@ -140,13 +144,11 @@ fn push_fall(files: &[&str], text: &mut String, fall: &Fall) -> Written {
     for count in &fall.by_core {
         faults = faults.saturating_add(*count);
     }
-    text.push_str("\n\nbefore it  ")?;
-    push_line_of(text, files, Some(&fall.before), "")?;
-    text.push_str("\nthe fault  ")?;
-    push_line_of(text, files, Some(&fall.fault), "")?;
     write!(
         text,
-        "\nfaults     {faults} CORE-ORDER\nof cores   {}\n",
+        "\n\nbefore it  {}\nthe fault  {}\nfaults     {faults} CORE-ORDER\nof cores   {}\n",
+        Line(files, Some(&fall.before), ""),
+        Line(files, Some(&fall.fault), ""),
         ByCore(fall.by_core.as_slice())
     )
 }
@@ -167,11 +169,10 @@ fn push_departure(
     }?;
     write!(
         text,
-        "\nregisters  {}\nfound      ",
-        Registers(&departure.registers)
-    )?;
-    push_line_of(text, files, departure.found.as_ref(), "the end of the log")?;
-    text.push('\n')
+        "\nregisters  {}\nfound      {}\n",
+        Registers(&departure.registers),
+        Line(files, departure.found.as_ref(), "the end of the log")
+    )
 }
 
 /// The registers that hold something else than 0.

@@ -8,8 +8,8 @@ use Rattle.log_record.specs.declared.format.Format.{Format}
 use Rattle.log_record.specs.declared.format.Format.TheVariants.{One, Two}
 use Rattle.log_record.specs.declared.act.Act.{Act}
 use Rattle.log_record.specs.declared.act.Act.TheVariants as act
-use Rattle.log_record.specs.declared.act.Kind.{Kind}
-use Rattle.log_record.specs.declared.act.Kind.TheVariants as kind
+use Rattle.log_record.specs.declared.reading.Kind.{Kind}
+use Rattle.log_record.specs.declared.reading.Kind.TheVariants as kind
 use Rattle.log_record.specs.declared.record.Record.{Record}
 
 -- ---- records
