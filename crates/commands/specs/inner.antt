@@ -1,5 +1,6 @@
 -- Definitions that serve private contracts alone.
 pub mod Certificates
+pub mod CoreLogs
 pub mod Finding
 pub mod Looking
 pub mod Performing

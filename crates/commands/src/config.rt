@@ -1,11 +1,13 @@
-//! The configuration that is asked for.
+//! The configuration that is asked for, and the format of the logs of programs.
 
 ghost use Rattle.std.specs.Prelude.{◌≡◌, Some, None, MatchResult};
 ghost use Rattle.lease_rule.specs.Ranges.{first_bad};
 ghost use Rattle.commands.specs.Programmed as programmed;
 
 use command_line::Limits;
+use core_program::ProgramFormat;
 use lease_rule::{BadConfig, Config};
+use log_record::Format;
 
 /// How many turns a core has for an operation, if it runs as a thread; a simulation has no use
 /// for them.
@@ -27,4 +29,14 @@ pub(crate) fn config_of(limits: &Limits) -> Result<Config, BadConfig>
         limits.inbox,
         TURNS,
     )
+}
+
+/// The format of the logs of programs of this format.
+pub(crate) fn log_format(of_programs: ProgramFormat) -> Format
+    ensures { result ≡ programmed.log_format of_programs }
+{
+    match of_programs {
+        ProgramFormat::One => Format::One,
+        ProgramFormat::Two => Format::Two,
+    }
 }

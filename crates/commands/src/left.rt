@@ -1,6 +1,7 @@
 //! What a run leaves in the folder: its logs, and then its numbers.
 
 ghost use Rattle.std.specs.Prelude.{◌≡◌, ◌≤◌, IfErr, IfOk, OnOk};
+ghost use Rattle.audit.specs.Runs.{kept_log};
 ghost use Rattle.host_files.specs.Files.{KeepsFiles};
 ghost use Rattle.commands.specs.Logs as logs;
 ghost use Rattle.commands.specs.Outputs.{IsNameOf, PutsAt};
@@ -9,7 +10,7 @@ ghost use Rattle.commands.specs.Numbers as numbers;
 use super::place::Output;
 use super::putting::put_under;
 use super::refusal::Refusal;
-use super::writing::{LogsOfCores, write_logs};
+use super::writing::{CoreLogs, write_logs};
 use core_unit::CoreUnit;
 use host_files::Folder;
 use log_record::Format;
@@ -58,23 +59,22 @@ fn put_numbers<F: Folder>(
 
 /// Writes the log of each core, and then the numbers of the run if a file is given for them. How many operations were performed.
 /// What can't be written ends it: 29 if a put fails, and 10 if a growth was refused.
-pub(crate) fn leave<F: Folder, L: LogsOfCores>(
+pub(crate) fn leave<F: Folder>(
     alloc: Global,
     folder: &mut F,
     leaving: &Leaving<'_>,
-    of: &L,
     units: &[CoreUnit],
     managers: &[ManagerSlice],
 ) -> Result<u64, Refusal>
     requires { leaving.now.cores ≤ 64 }
-    ensures ok { IfOk result (λ count. count ≡ logs.performed_below (L.made of.now) leaving.now.cores) }
+    ensures ok { IfOk result (λ count. count ≡ logs.performed_below (kept_log units.now) leaving.now.cores) }
     ensures left { OnOk result (numbers.AreLeft leaving.now.format (F.files folder.old) (F.files folder.new) leaving.now.out.now
-        leaving.now.cores (L.made of.now) leaving.now.statistics
+        leaving.now.cores (kept_log units.now) leaving.now.statistics
         (numbers.numbers_of leaving.now.cores leaving.now.slices units.now managers.now)) }
     ensures err { IfErr result (numbers.IsUnleft leaving.now.format (F.files folder.old) (F.files folder.new) leaving.now.out.now
-        leaving.now.cores (L.made of.now) leaving.now.statistics) }
+        leaving.now.cores (kept_log units.now) leaving.now.statistics) }
     ensures far { numbers.AreLeftAsFar leaving.now.format (F.files folder.old) (F.files folder.new) leaving.now.out.now
-        leaving.now.cores (L.made of.now) leaving.now.statistics
+        leaving.now.cores (kept_log units.now) leaving.now.statistics
         (numbers.numbers_of leaving.now.cores leaving.now.slices units.now managers.now) }
     ensures others { KeepsFiles (F.files folder.old).told (F.files folder.new).told
         (numbers.IsLeftName leaving.now.out.now leaving.now.statistics) }
@@ -84,7 +84,7 @@ pub(crate) fn leave<F: Folder, L: LogsOfCores>(
         folder,
         leaving.out,
         leaving.format,
-        of,
+        CoreLogs::OfUnits(units),
         leaving.cores,
     )?;
     put_numbers(alloc, folder, leaving, units, managers)?;

@@ -29,7 +29,6 @@ mod refusal_telling;
 mod refused_file;
 mod replay_file;
 mod run_files;
-mod run_logs;
 mod search_answer;
 mod search_files;
 mod sim_files;

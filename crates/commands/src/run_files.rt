@@ -4,10 +4,9 @@ ghost use Rattle.host_files.specs.Files.{IsUnread, KeepsFiles};
 ghost use Rattle.commands.specs.Numbers.{IsLeftName};
 ghost use Rattle.commands.specs.Running as running;
 
-use super::config::config_of;
+use super::config::{config_of, log_format};
 use super::left::{Leaving, leave};
 use super::refusal::Refusal;
-use super::run_logs::{UnitLogs, log_format};
 use super::text::read_programs;
 use super::watch::{Watch, Watched};
 use command_line::Run;
@@ -44,21 +43,12 @@ pub(crate) fn run<R: Threads + Wait + Sync, W: Watch + Sync, F: Folder>(
     };
     match ran {
         Ok(end) => {
-            let units = end.units.as_slice();
-            let made = UnitLogs { units };
-            leave(alloc, folder, &leaving, &made, units, end.slices.as_slice())
+            let (units, slices) = (end.units.as_slice(), end.slices.as_slice());
+            leave(alloc, folder, &leaving, units, slices)
         }
         Err(fault) => {
-            let units = fault.units.as_slice();
-            let made = UnitLogs { units };
-            let _left = leave(
-                alloc,
-                folder,
-                &leaving,
-                &made,
-                units,
-                fault.slices.as_slice(),
-            );
+            let (units, slices) = (fault.units.as_slice(), fault.slices.as_slice());
+            let _left = leave(alloc, folder, &leaving, units, slices);
             Err(Refusal::Run(ThreadsFault::of(&fault)))
         }
     }

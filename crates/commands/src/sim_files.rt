@@ -6,12 +6,11 @@ ghost use Rattle.host_files.specs.Files.{IsOnlyRead, IsUnread, KeepsFiles};
 ghost use Rattle.commands.specs.Outputs.{IsNameOf};
 ghost use Rattle.commands.specs.Simulating as simulating;
 
-use super::config::config_of;
+use super::config::{config_of, log_format};
 use super::left::{Leaving, leave};
 use super::place::{Input, Output};
 use super::putting::put_under;
 use super::refusal::Refusal;
-use super::run_logs::log_format;
 use super::text::{read_programs, read_text};
 use command_line::Sim;
 use core_program::ProgramSet;
@@ -51,14 +50,7 @@ pub(crate) fn sim<F: Folder>(alloc: Global, folder: &mut F, asked: &Sim<'_>) -> 
         cores: programs.len(),
         slices: config.slices(),
     };
-    let left = leave(
-        alloc,
-        folder,
-        &leaving,
-        &machine,
-        machine.units(),
-        machine.slices(),
-    );
+    let left = leave(alloc, folder, &leaving, machine.units(), machine.slices());
     let traced = leave_events(alloc, folder, asked.events, &programs, &machine, left);
     ended?;
     traced

@@ -2,50 +2,71 @@
 
 ghost use Rattle.std.specs.Prelude.{◌≡◌, ◌≢◌, ◌≤◌, ◌<◌, ℕ, List, length, IfErr, IfOk, OnOk};
 ghost use Rattle.mem_op.specs.Limits.{operation_limit};
-ghost use Rattle.log_record.specs.declared.record.Record.{Record};
 ghost use Rattle.log_file.specs.Devices.{Tells};
 ghost use Rattle.log_file.specs.Log.{SpellsIn};
 ghost use Rattle.commands.specs.Logs as logs;
+ghost use Rattle.commands.specs.inner.CoreLogs.{AreShort, core_log};
 ghost use Rattle.commands.specs.inner.Putting.{IsUnput};
 
 use super::refusal::Refusal;
+use core_unit::CoreUnit;
 use host_files::Folder;
 use log_file::{MemSink, write_log};
 use log_record::{Format, Record};
 use mem_op::CoreId;
 use std::alloc::Global;
 
-/// What tells the logs of cores.
-pub trait LogsOfCores {
-    /// The log that the core of a number made.
-    ghost made: { Self → ℕ → List Record };
+/// Where the logs of cores are.
+#[derive(Clone, Copy)]
+pub(crate) enum CoreLogs<'a> {
+    /// In the units that performed the operations.
+    OfUnits(&'a [CoreUnit]),
+    /// In a list that was read, core 0's first.
+    Read(&'a [Vec<Record>]),
+}
 
-    /// The log that a core made.
-    fn log(&self, core: CoreId) -> &[Record]
-        ensures records { result.now ≡ made self.now core }
-        ensures few { length result.now ≤ operation_limit };
+impl<'a> CoreLogs<'a> {
+    /// The log of a core. It is empty if there is none, or if another core's unit is at its place.
+    fn log(self, core: CoreId) -> &'a [Record]
+        requires { AreShort self }
+        ensures records { result.now ≡ core_log self.entry core }
+        ensures few { length result.now ≤ operation_limit }
+    {
+        let place = core.get() as usize;
+        match self {
+            CoreLogs::OfUnits(units) => match units.get(place) {
+                Some(unit) if unit.core().get() == core.get() => unit.log(),
+                _ => &[],
+            },
+            CoreLogs::Read(logs) => match logs.get(place) {
+                Some(log) => log.as_slice(),
+                None => &[],
+            },
+        }
+    }
 }
 
 /// Writes the log of each core, of `cores`, in this format, and answers how many operations they have
 /// performed. The first log that can't be written ends it: 29 if its put fails, and 10 if a growth was refused.
-pub(crate) fn write_logs<F: Folder, L: LogsOfCores>(
+pub(crate) fn write_logs<F: Folder>(
     alloc: Global,
     folder: &mut F,
     out: &str,
     format: Format,
-    of: &L,
+    of: CoreLogs<'_>,
     cores: usize,
 ) -> Result<u64, Refusal>
-    requires { cores ≤ 64 }
+    requires cores { cores ≤ 64 }
+    requires short { AreShort of }
     ensures ok { IfOk result (λ count.
-        count ≡ logs.performed_below (L.made of.now) cores) }
+        count ≡ logs.performed_below (core_log of.entry) cores) }
     ensures logs { OnOk result (logs.ArePut format (F.files folder.old)
-        (F.files folder.new) out.now cores (L.made of.now)) }
+        (F.files folder.new) out.now cores (core_log of.entry)) }
     ensures err { IfErr result (logs.IsUnwritten (logs.ArePutUpTo format
         (F.files folder.old) (F.files folder.new)
-        out.now cores (L.made of.now))) }
+        out.now cores (core_log of.entry))) }
     ensures far { logs.ArePutAsFar format (F.files folder.old)
-        (F.files folder.new) out.now cores (L.made of.now) }
+        (F.files folder.new) out.now cores (core_log of.entry) }
     ensures others { logs.KeepsOthers (F.files folder.old).told (F.files folder.new).told out.now 64 }
 {
     let mut count = 0;

@@ -1,20 +1,24 @@
 -- Seats, where the units and the replies that are kept for them stand in two lists.
-use Rattle.std.proofs.Common.{◌≡◌, ℕ, zero, suc, ◌-◌, ◌<◌, ◌≤◌, List, [], ◌∷◌, ◌++◌, length, get_or, take, replicate, map, refl, sym, ap, ◌∙◌, arith}
-use Rattle.std.specs.Prelude.{Option, Some, None, option_and_then, slice_get, slice_set}
+use Rattle.std.proofs.Common.{◌≡◌, ℕ, zero, suc, ◌-◌, ◌<◌, ◌≤◌, List, [], ◌∷◌, ◌++◌, length, get_or, take, replicate, map, refl, sym, ap, ◌∙◌, arith, eq-eqb}
+use Rattle.std.specs.Prelude.{Option, Some, None, if◌then◌else◌, nat_eq, option_and_then, slice_get, slice_set}
+use Rattle.std.specs.Option.{option_map, option_map_or}
 use Rattle.std.proofs.lemmas.List.{length-set}
+use Rattle.std.proofs.lemmas.Option.{slice_get-map}
 use Rattle.std.proofs.Math.Nat.{sub-zero}
 use Rattle.std.proofs.Math.Seq.{take-nil}
 use Rattle.line_stamps.specs.declared.message.Reply.{Reply}
 use Rattle.lease_rule.specs.ConfigParts.{ConfigParts}
 use Rattle.manager_slice.specs.Parts.{SliceParts}
 use Rattle.core_unit.specs.Core.{Core}
-use Rattle.core_unit.specs.Parts.{UnitParts}
+use Rattle.core_unit.specs.Parts.{UnitParts, core_of}
 use Rattle.core_machine.specs.Opening.{new_seat}
 use Rattle.core_machine.specs.Parts.{CoreParts, IsMachine, programs_of, world}
 use Rattle.core_machine.specs.SeatParts.{SeatParts}
 use Rattle.core_machine.specs.Seats.{seen}
 use Rattle.core_machine.specs.Steps.{with_seat}
+use Rattle.core_machine.specs.Works.{log_at}
 use Rattle.core_machine.proofs.Placed.{found_in_map, set_again, stands, stands_none}
+use Rattle.audit.specs.Runs.{kept_log}
 use Rattle.machine_laws.specs.Hands.{ReplyFits, no_message, unserved, busy, taken, fills}
 use Rattle.machine_laws.proofs.Replies.{reached_ready}
 use Rattle.tardis_core.specs.inner.Seating.{IsSeated, parts, seat, seats_of}
@@ -60,6 +64,17 @@ pub all_new : (us : List UnitParts) (kept none : List (Option Reply)) (n m : ℕ
 all_new us kept none n m is empty zero_is many =
     let filled : take n none ++ replicate (n - m) None ≡ replicate n None = rw (empty, zero_is) (simp (take-nil, sub-zero)) in
     ap (seats_of us) (is ∙ filled) ∙ new_seats us n many
+
+-- the logs that the units keep are the machine's
+pub logs_are : (p : CoreParts) → IsMachine p → (c : ℕ) → kept_log (map (λ s. s.unit) p.seats) c ≡ log_at (world p) c
+logs_are p is c =
+    rw (slice_get-map (λ (s : SeatParts). s.unit) p.seats c, slice_get-map (λ (s : SeatParts). core_of s.unit s.kept) p.seats c) (go (slice_get p.seats c) refl)
+  where
+    go : (o : Option SeatParts) → slice_get p.seats c ≡ o
+        → option_map_or (λ (u : UnitParts). if nat_eq u.core c then u.log else []) (option_map (λ (s : SeatParts). s.unit) o) []
+        ≡ option_map_or (λ (u : Core). u.log) (option_map (λ (s : SeatParts). core_of s.unit s.kept) o) []
+    go None at = refl
+    go (Some s) at = ap (λ b. if b then s.unit.log else []) (eq-eqb s.unit.core c (is.placed.seats c s at).core)
 
 -- ---- a seat that is replaced
 

@@ -1,8 +1,10 @@
 //! The core machine.
 
-ghost use Rattle.std.specs.Prelude.{◌≡◌, map, option_and_then, option_map, slice_get};
+ghost use Rattle.std.specs.Prelude.{◌≡◌, ℕ, map, option_and_then, option_map, slice_get};
 ghost use Rattle.std.specs.Option.{option_copied};
-ghost use Rattle.core_machine.specs.Parts.{IsMachine, IsReached};
+ghost use Rattle.core_machine.specs.Parts.{IsMachine, IsReached, world};
+ghost use Rattle.core_machine.specs.Works.{log_at};
+ghost use Rattle.audit.specs.Runs.{kept_log};
 
 use core_machine::Event;
 use core_unit::CoreUnit;
@@ -80,9 +82,11 @@ impl Core {
 
     /// The units, core 0's first.
     pub fn units(&self) -> &[CoreUnit]
-        ensures { result.now ≡ map (λ s. s.unit) self.now.seats }
+        ensures units { result.now ≡ map (λ s. s.unit) self.now.seats }
+        ensures logs { (core : ℕ) → kept_log result.now core ≡ log_at (world self.now) core }
     {
         let machine = &self.machine;
+        machine.keeps();
         machine.units.as_slice()
     }
 

@@ -1,15 +1,19 @@
 use Rattle.std.proofs.Common.{◌≡◌, ◌∙◌, ℕ, List, length, map, Option, None, Some, Err, refl, subst, rules}
-use Rattle.std.specs.Prelude.{IfErr, OnOk}
+use Rattle.std.specs.Prelude.{IfErr, IfOk, OnOk}
 use Rattle.lease_rule.specs.Ranges.{first_bad}
 use Rattle.simulation.specs.Simulating.{IsSimulated, IsSimulationFault}
+use Rattle.log_record.specs.declared.record.Record.{Record}
+use Rattle.core_unit.specs.Parts.{UnitParts}
+use Rattle.audit.specs.Runs.{kept_log}
 use Rattle.core_machine.specs.Opening.{opening_parts}
-use Rattle.core_machine.specs.Parts.{world}
+use Rattle.core_machine.specs.Parts.{CoreParts, world}
 use Rattle.core_machine.specs.Works.{log_at}
 use Rattle.host_files.specs.Files.{Files, IsUnread, KeepsFiles}
 use Rattle.commands.specs.Programs.{AreProgramsIn}
 use Rattle.commands.proofs.Files.{keeps_files, only_read_after}
 use Rattle.commands.proofs.Numbers.{keeps_then}
 use Rattle.commands.proofs.Runs.{came, faulted, tried, unprogrammed, unscheduled, untraced}
+use Rattle.commands.specs.Logs.{performed_below}
 use Rattle.commands.specs.Numbers.{AreLeft, AreLeftAsFar, IsUnleft, numbers_of}
 use Rattle.commands.specs.Programmed.{config_of, log_format}
 use Rattle.commands.specs.Simulating.{AreCommandsOf}
@@ -66,6 +70,11 @@ returns-in_default-clause-exact g c =
 pub returns-in_default-clause-files : goal.returns-in_default-clause-files
 returns-in_default-clause-files g c = keeps_files _ _ _ (only_read_after _ _ _ c.in_ok-programs.ensures.quiet c.in_ok-commands.ensures.read)
 
+-- what holds of the logs that the units keep holds of the machine's
+of_machine : (q : CoreParts) (us : List UnitParts) → us ≡ map (λ seat. seat.unit) q.seats → ((core : ℕ) → kept_log us core ≡ log_at (world q) core)
+    → (Holds : (ℕ → List Record) → List UnitParts → Type 0) → Holds (kept_log us) us → Holds (log_at (world q)) (map (λ seat. seat.unit) q.seats)
+of_machine q us is same Holds holds = subst (Holds (log_at (world q))) is (subst (λ (logs : ℕ → List Record). Holds logs us) (λ i core. same core i) holds)
+
 pub returns-in_err-ended-clause-exact : goal.returns-in_err-ended-clause-exact
 returns-in_err-ended-clause-exact g c =
     let files = g.F.Folder.files in
@@ -89,7 +98,9 @@ returns-in_err-ended-clause-exact g c =
     let same : c.log_format.result ≡ log_format set.format = search rules in
     let parts : c.slices.result ≡ asked.limits.slices = search rules in
     let text = λ (n k : ℕ). numbers_of n k (map (λ seat. seat.unit) q.seats) q.slices in
-    let far = subst (λ (f : Files). AreLeftAsFar c.log_format.result f mid asked.out.now c.len-2.result (log_at (world q)) asked.statistics (text c.len-2.result c.slices.result)) as_it_was (rw (c.units.ensures, c.slices-2.ensures) at c.leave-left.ensures.far) in
+    let far = subst (λ (f : Files). AreLeftAsFar c.log_format.result f mid asked.out.now c.len-2.result (log_at (world q)) asked.statistics (text c.len-2.result c.slices.result)) as_it_was
+    (of_machine q c.units.result.now c.units.ensures.units c.units.ensures.logs
+    (λ logs us. AreLeftAsFar c.log_format.result now mid asked.out.now c.len-2.result logs asked.statistics (numbers_of c.len-2.result c.slices.result us q.slices)) (rw c.slices-2.ensures at c.leave-left.ensures.far)) in
     rw is (
       mid,
       Err (Simulation c.in_err-ended.field-0.0),
@@ -119,12 +130,16 @@ returns-clause-exact g c =
     let same : c.log_format.result ≡ log_format set.format = search rules in
     let parts : c.slices.result ≡ asked.limits.slices = search rules in
     let text = λ (n k : ℕ). numbers_of n k (map (λ seat. seat.unit) q.seats) q.slices in
-    let left = subst (λ (f : Files). OnOk c.leave-left.result (AreLeft c.log_format.result f mid asked.out.now c.len-2.result (log_at (world q)) asked.statistics (text c.len-2.result c.slices.result))) as_it_was (rw (c.units.ensures, c.slices-2.ensures) at c.leave-left.ensures.left) in
-    let why = subst (λ (f : Files). IfErr c.leave-left.result (IsUnleft c.log_format.result f mid asked.out.now c.len-2.result (log_at (world q)) asked.statistics)) as_it_was c.leave-left.ensures.err in (
+    let of_units = of_machine q c.units.result.now c.units.ensures.units c.units.ensures.logs in
+    let counted = of_units (λ logs us. IfOk c.leave-left.result (λ count. count ≡ performed_below logs c.len-2.result)) c.leave-left.ensures.ok in
+    let left = subst (λ (f : Files). OnOk c.leave-left.result (AreLeft c.log_format.result f mid asked.out.now c.len-2.result (log_at (world q)) asked.statistics (text c.len-2.result c.slices.result))) as_it_was
+    (of_units (λ logs us. OnOk c.leave-left.result (AreLeft c.log_format.result now mid asked.out.now c.len-2.result logs asked.statistics (numbers_of c.len-2.result c.slices.result us q.slices))) (rw c.slices-2.ensures at c.leave-left.ensures.left)) in
+    let why = subst (λ (f : Files). IfErr c.leave-left.result (IsUnleft c.log_format.result f mid asked.out.now c.len-2.result (log_at (world q)) asked.statistics)) as_it_was
+    (of_units (λ logs us. IfErr c.leave-left.result (IsUnleft c.log_format.result now mid asked.out.now c.len-2.result logs asked.statistics)) c.leave-left.ensures.err) in (
       mid,
       c.leave-left.result,
       came old mid unread asked set commands q sound read parsed simulated c.leave-left.result
-          (rw (← many) c.leave-left.ensures.ok) (rw (← many, ← same, ← parts) left) (rw (← many, ← same) why),
+          (rw (← many) counted) (rw (← many, ← same, ← parts) left) (rw (← many, ← same) why),
       c.leave_events-traced.ensures.traced,
     )
 

@@ -16,7 +16,7 @@ pub returns-clause-run : goal.returns-clause-run
 returns-clause-run g c =
     let t = c.args.test.now in
     judged_end CoreParts (IsSeededRun t c.args.config.now c.args.seed c.args.stress) (IsUnsimulated t c.args.config.now c.args.seed c.args.stress) world (seeded_numbers t c.args.config.now) t c.in_ok-machine.machine
-    (map (λ s. s.unit) c.in_ok-machine.machine.seats) c.keep.result (alike_alone c.in_ok-machine.machine) c.in_ok-machine.ensures (rw (c.units.ensures, c.slices.ensures) at c.keep.ensures)
+    (map (λ s. s.unit) c.in_ok-machine.machine.seats) c.keep.result (alike_alone c.in_ok-machine.machine) c.in_ok-machine.ensures (rw (c.units.ensures.units, c.slices.ensures) at c.keep.ensures)
 
 pub returns-clause-yes : goal.returns-clause-yes
 returns-clause-yes g c =
@@ -24,4 +24,4 @@ returns-clause-yes g c =
     let few = subst (λ (ps : List (List Instruction)). length ps ≤ 64) c.programs.ensures.programs c.len.ensures.in_range.1 in
     seeded_never_no t c.args.config.now c.args.seed c.args.stress few c.keep.result (λ k. IsSeededEnd t c.args.config.now c.args.seed c.args.stress k.outcome.items k.counts)
     (judged_end CoreParts (IsSeededRun t c.args.config.now c.args.seed c.args.stress) (IsUnsimulated t c.args.config.now c.args.seed c.args.stress) world (seeded_numbers t c.args.config.now) t c.in_ok-machine.machine
-    (map (λ s. s.unit) c.in_ok-machine.machine.seats) c.keep.result (alike_alone c.in_ok-machine.machine) c.in_ok-machine.ensures (rw (c.units.ensures, c.slices.ensures) at c.keep.ensures))
+    (map (λ s. s.unit) c.in_ok-machine.machine.seats) c.keep.result (alike_alone c.in_ok-machine.machine) c.in_ok-machine.ensures (rw (c.units.ensures.units, c.slices.ensures) at c.keep.ensures))
