@@ -26,7 +26,7 @@ enum Packed {
     Swap(PackedSource, Word),
 }
 
-/// An act in 24 bytes, where an `Act` takes 32.
+/// An act in 16 bytes, where an `Act` takes 32.
 #[derive(Clone, Copy, Debug, PartialEq, Eq)]
 pub struct PackedAct {
     packed: Packed,
@@ -46,7 +46,7 @@ impl Model for PackedAct {
 }
 
 impl PackedAct {
-    /// An act in 24 bytes.
+    /// An act in 16 bytes.
     pub fn of(act: Act) -> PackedAct
         ensures { result ≡ act }
     {

@@ -8,7 +8,7 @@ use super::act::{Act, PackedAct};
 use line_stamps::{Key, Rank, Stamp};
 use mem_op::{Addr, OpId, Word};
 
-/// One operation of a core, as its log has it. A record takes 48 bytes.
+/// One operation of a core, as its log has it. A record takes 40 bytes.
 #[derive(Clone, Copy, Debug, PartialEq, Eq)]
 pub struct Record {
     /// The word that the operation loaded or stored; of a swap, the one that it stored.
@@ -43,7 +43,7 @@ impl Record {
     }
 }
 
-/// A record with its id. It takes 56 bytes.
+/// A record with its id. It takes 48 bytes.
 #[derive(Clone, Copy, Debug, PartialEq, Eq)]
 pub struct Entry {
     /// The record.
