@@ -59,13 +59,13 @@ fn each_write_fails_in_turn(rt: HostRuntime) -> Result<(), Fail> {
         read_line(Format::One, b"L 5 7 1 1 0.0")?,
         read_line(Format::One, b"S 5 8 1 1")?,
     ];
-    let whole = Step::Move(99);
-    let steps = [whole, whole, whole, whole, Step::Fail];
+    let ten = Step::Move(9);
+    let steps = [ten, ten, ten, ten, Step::Fail];
     for (steps, taken) in [
-        (&steps[..], 59),
-        (&steps[1..], 49),
-        (&steps[2..], 35),
-        (&steps[3..], 25),
+        (&steps[..], 40),
+        (&steps[1..], 30),
+        (&steps[2..], 20),
+        (&steps[3..], 10),
         (&steps[4..], 0),
     ] {
         let mut sink = MemSink::new(rt.alloc(), steps);

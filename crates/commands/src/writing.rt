@@ -11,7 +11,7 @@ ghost use Rattle.commands.specs.inner.Putting.{IsUnput};
 use super::refusal::Refusal;
 use core_unit::CoreUnit;
 use host_files::Folder;
-use log_file::{MemSink, write_log};
+use log_file::print_log;
 use log_record::{Format, Record};
 use mem_op::CoreId;
 use std::alloc::Global;
@@ -103,11 +103,10 @@ fn write_log_of<F: Folder>(
     let Ok(name) = format!(in alloc; "{out}.{}", core.get()) else {
         return Err(Refusal::OutOfMemory);
     };
-    let mut text = MemSink::new(alloc, &[]);
-    if write_log(alloc, &mut text, format, core, cores as u64, records).is_err() {
+    let Ok(text) = print_log(alloc, format, core, cores as u64, records) else {
         return Err(Refusal::OutOfMemory);
-    }
-    match folder.put(name.as_str(), text.bytes()) {
+    };
+    match folder.put(name.as_str(), text.as_bytes()) {
         Ok(()) => Ok(()),
         Err(_) => Err(Refusal::LogUnwritten {
             file: core.get() as usize,

@@ -19,7 +19,7 @@ use super::run_cause::RunCause;
 use super::test::Litmus;
 use core_program::ProgramSet;
 use core_unit::CoreUnit;
-use log_file::{MemSink, SliceSource, write_log};
+use log_file::{SliceSource, print_log};
 use log_record::{Format, Record};
 use mem_op::CoreId;
 use std::alloc::Global;
@@ -39,11 +39,10 @@ fn log_text(
     ensures text { IfOk result (λ text. SpellsIn Format.Two core cores text.items records.now) }
     ensures refused { IfErr result (λ cause. cause ≡ RunCause.OutOfMemory) }
 {
-    let mut sink = MemSink::new(alloc, &[]);
-    if write_log(alloc, &mut sink, Format::Two, core, cores as u64, records).is_err() {
-        return Err(RunCause::OutOfMemory);
+    match print_log(alloc, Format::Two, core, cores as u64, records) {
+        Ok(text) => Ok(text.into_bytes()),
+        Err(_) => Err(RunCause::OutOfMemory),
     }
-    Ok(sink.bytes().to_vec(alloc)?)
 }
 
 /// The texts of the logs of this many cores.

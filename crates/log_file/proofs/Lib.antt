@@ -16,4 +16,3 @@ pub mod Spelled
 pub mod Standing
 pub mod TakenParts
 pub mod Walk
-pub mod Writing

@@ -15,8 +15,3 @@ abbrev pub log_write_fault_text : LogWriteFault → List ℕ
 log_write_fault_text log.SwapInFormatOne = name_text named.SwapInFormatOne
 log_write_fault_text log.OutOfMemory = name_text named.OutOfMemory
 log_write_fault_text log.Write = name_text named.Write
-
--- faults of writing bytes as faults of writing a log
-abbrev pub from_write : WriteFault → LogWriteFault
-from_write OutOfMemory = log.OutOfMemory
-from_write Write = log.Write

@@ -43,5 +43,5 @@ pub use read::read_all;
 pub use record_reader::RecordReader;
 pub use slice_source::SliceSource;
 pub use step::Step;
-pub use write::write_log;
+pub use write::{print_log, write_log};
 pub use write_fault::LogWriteFault;

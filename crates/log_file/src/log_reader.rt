@@ -58,7 +58,7 @@ impl LogReader {
     pub fn finish(self) -> Result<Vec<Record>, LogFault>
         ensures { Finishes self.core self.cores self.fed result }
     {
-        self.reader.finish()?;
+        self.reader.check_end()?;
         Ok(self.records)
     }
 }

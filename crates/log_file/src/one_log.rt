@@ -44,7 +44,7 @@ pub(crate) fn read_list<S: ByteSource, L: RecordList + Drop>(
         let room = buffer.as_mut_slice();
         let count = source.read(room)?;
         if count == 0 {
-            reader.finish()?;
+            reader.check_end()?;
             return Ok(list);
         }
         reader.feed_all(&mut list, &room[..count])?;

@@ -113,7 +113,7 @@ impl RecordReader {
         ensures refused { IfErr result (λ fault. IsPartRefused self.old part.now fault
             × (self.new ≡ record self.old { fault = Some fault })) }
     {
-        let ended = self.stage.is_ended() && !part.is_empty();
+        let ended = matches!(self.stage, Stage::Ended(_)) && !part.is_empty();
         if ended || self.begun.len() + part.len() > self.stage.line_limit() {
             return self.refuse(self.fault_of_more());
         }
@@ -238,16 +238,5 @@ impl RecordReader {
             Stage::Records(_) => Err(LogFault::At(self.count + 2, FormatFault::Truncated)),
             Stage::Ended(_) => Ok(()),
         }
-    }
-
-    /// Ends the reading, with the answer of `check_end`.
-    pub fn finish(self) -> Result<(), LogFault>
-        ensures ends { (bytes : List ℕ) (records : List Record) → HasAnswered self bytes records
-            → MatchResult result
-            (λ _. Spells self.core self.cores bytes records)
-            (IsFaultOf self.core self.cores bytes) }
-        ensures again { IfSome self.fault (λ fault. MatchResult result (λ _. ⊥) (λ f. f ≡ fault)) }
-    {
-        self.check_end()
     }
 }

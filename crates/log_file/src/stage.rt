@@ -1,7 +1,7 @@
 //! Which line of a log was read last.
 
-ghost use Rattle.std.specs.Prelude.{◌≡◌, ◌≤◌, ◌↔◌, IsTrue};
-ghost use Rattle.log_file.specs.Standing.{IsEnded, limit_at};
+ghost use Rattle.std.specs.Prelude.{◌≡◌, ◌≤◌};
+ghost use Rattle.log_file.specs.Standing.{limit_at};
 
 use super::one_line::HEADER_LIMIT;
 use log_record::Format;
@@ -27,16 +27,6 @@ impl Stage {
             Stage::Header => HEADER_LIMIT,
             Stage::Records(format) => format.line_limit(),
             Stage::Ended(format) => format.line_limit(),
-        }
-    }
-
-    /// Whether that is the end line.
-    pub(crate) fn is_ended(self) -> bool
-        ensures { IsTrue result ↔ IsEnded self }
-    {
-        match self {
-            Stage::Ended(_) => true,
-            _ => false,
         }
     }
 }

@@ -1,17 +1,47 @@
-//! A log written to a device.
+//! A log as text, and written to a device.
 
-ghost use Rattle.std.specs.Prelude.{◌≡◌, ◌<◌, ◌≤◌, ◌↔◌, length, OnOk, IsErrOf, IsTrue, string_bytes};
+ghost use Rattle.std.specs.Prelude.{◌≡◌, ◌<◌, ◌≤◌, ◌↔◌, length, IfOk, OnOk, IsErrOf, IsTrue, string_bytes};
 ghost use Rattle.mem_op.specs.Limits.{operation_limit};
-ghost use Rattle.log_record.specs.Line.{Fits, SourceFits, record_text};
+ghost use Rattle.log_record.specs.Line.{Fits, SourceFits};
 ghost use Rattle.log_file.specs.Devices.{TellsFailure, Writes};
-ghost use Rattle.log_file.specs.Log.{HasEach, IsLog, spelling, with_lf};
+ghost use Rattle.log_file.specs.Log.{HasEach, IsLog, SpellsIn, spelling};
 
 use super::byte_sink::{ByteSink, write_all};
-use super::device_fault::WriteFault;
 use super::write_fault::LogWriteFault;
 use log_record::{Act, Format, Record, print_end, print_header};
 use mem_op::{CoreId, Source};
 use std::alloc::Global;
+
+/// The text of the log of this core of `cores` in this format. 15 comes if the format is 1 and one of the
+/// records is a swap, 10 if a growth was refused.
+pub fn print_log(
+    alloc: Global,
+    format: Format,
+    core: CoreId,
+    cores: u64,
+    records: &[Record],
+) -> Result<String, LogWriteFault>
+    requires core { core < cores }
+    requires cores { cores ≤ 64 }
+    requires few { length records.now ≤ operation_limit }
+    ensures text { IfOk result (λ text. SpellsIn format core cores (string_bytes text) records.now) }
+    // 15 comes exactly if a log of this format may not have one of the records.
+    ensures swap { IsErrOf result LogWriteFault.SwapInFormatOne ↔ ¬ HasEach format records.now }
+    ensures unwritten { ¬ IsErrOf result LogWriteFault.Write }
+{
+    if !has_each(format, records) {
+        return Err(LogWriteFault::SwapInFormatOne);
+    }
+    let mut text = print_header(alloc, format, core, cores)?;
+    text.push('\n')?;
+    for logged in records {
+        in_range(logged);
+        writeln!(text, "{logged}")?;
+    }
+    text.push_str(&print_end(alloc, records.len() as u64)?)?;
+    text.push('\n')?;
+    Ok(text)
+}
 
 /// Writes the log of this core of `cores` in this format. 15 comes if the format is 1 and one of the records is
 /// a swap, 10 if a growth was refused, 29 if a write failed. By then the sink has taken a beginning of the
@@ -38,10 +68,9 @@ pub fn write_log<W: ByteSink>(
     ensures failures { TellsFailure (IsErrOf result LogWriteFault.Write)
         (W.failed sink.old) (W.failed sink.new) }
 {
-    if !has_each(format, records) {
-        return Err(LogWriteFault::SwapInFormatOne);
-    }
-    Ok(write_lines(alloc, sink, format, core, cores, records)?)
+    let text = print_log(alloc, format, core, cores, records)?;
+    write_all(sink, text.as_bytes())?;
+    Ok(())
 }
 
 // Whether a log of this format may have each of these records.
@@ -49,62 +78,6 @@ fn has_each(format: Format, records: &[Record]) -> bool
     ensures { IsTrue result ↔ HasEach format records.now }
 {
     records.iter().all(|logged| format.has_act(&logged.act()))
-}
-
-// Writes the lines of the log of this core of `cores` in this format, which may have each of the records.
-fn write_lines<W: ByteSink>(
-    alloc: Global,
-    sink: &mut W,
-    format: Format,
-    core: CoreId,
-    cores: u64,
-    records: &[Record],
-) -> Result<(), WriteFault>
-    requires core { core < cores }
-    requires cores { cores ≤ 64 }
-    requires few { length records.now ≤ operation_limit }
-    requires each { HasEach format records.now }
-    ensures log { OnOk result (IsLog format core cores records.now) }
-    ensures written { Writes (W.contents sink.old) (W.contents sink.new)
-        (spelling format core cores records.now) result }
-    ensures failures { TellsFailure (IsErrOf result WriteFault.Write)
-        (W.failed sink.old) (W.failed sink.new) }
-{
-    write_line(sink, &mut print_header(alloc, format, core, cores)?)?;
-    let mut line = String::new(alloc);
-    for logged in records {
-        in_range(logged);
-        write_record(sink, &mut line, logged)?;
-    }
-    write_line(sink, &mut print_end(alloc, records.len() as u64)?)
-}
-
-// Writes a line with its line feed.
-fn write_line<W: ByteSink>(sink: &mut W, line: &mut String) -> Result<(), WriteFault>
-    ensures written { Writes (W.contents sink.old) (W.contents sink.new)
-        (with_lf (string_bytes line.old)) result }
-    ensures failures { TellsFailure (IsErrOf result WriteFault.Write)
-        (W.failed sink.old) (W.failed sink.new) }
-{
-    line.push('\n')?;
-    write_all(sink, line.as_bytes())?;
-    Ok(())
-}
-
-// Writes the line of a record with its line feed. The line takes the room of an earlier one.
-fn write_record<W: ByteSink>(
-    sink: &mut W,
-    line: &mut String,
-    logged: &Record,
-) -> Result<(), WriteFault>
-    ensures written { Writes (W.contents sink.old) (W.contents sink.new)
-        (with_lf (record_text logged.now)) result }
-    ensures failures { TellsFailure (IsErrOf result WriteFault.Write)
-        (W.failed sink.old) (W.failed sink.new) }
-{
-    line.clear();
-    write!(line, "{logged}")?;
-    write_line(sink, line)
 }
 
 // Does nothing: its contract says that the numbers of a record are in range.

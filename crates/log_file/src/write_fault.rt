@@ -1,7 +1,8 @@
 //! Why a log wasn't written.
 
-use super::device_fault::WriteFault;
+use super::device_fault::WriteFailed;
 use mem_op::FaultName;
+use std::alloc::AllocError;
 use std::fmt;
 use std::fmt::Display;
 use thiserror::Error;
@@ -32,16 +33,24 @@ impl Display for LogWriteFault {
     }
 }
 
-impl From<WriteFault> for LogWriteFault {
+impl From<AllocError> for LogWriteFault {
     ghost use Rattle.std.specs.Prelude.{◌≡◌};
-    ghost use Rattle.log_file.specs.WriteFaults.{from_write};
+    ghost use Rattle.log_file.specs.declared.write_fault.LogWriteFault.TheVariants.{OutOfMemory};
 
-    ghost from_gives = { λ found fault. fault ≡ from_write found };
+    ghost from_gives = { λ _ fault. fault ≡ OutOfMemory };
 
-    fn from(found: WriteFault) -> LogWriteFault {
-        match found {
-            WriteFault::OutOfMemory => LogWriteFault::OutOfMemory,
-            WriteFault::Write => LogWriteFault::Write,
-        }
+    fn from(_refused: AllocError) -> LogWriteFault {
+        LogWriteFault::OutOfMemory
+    }
+}
+
+impl From<WriteFailed> for LogWriteFault {
+    ghost use Rattle.std.specs.Prelude.{◌≡◌};
+    ghost use Rattle.log_file.specs.declared.write_fault.LogWriteFault.TheVariants.{Write};
+
+    ghost from_gives = { λ _ fault. fault ≡ Write };
+
+    fn from(_failed: WriteFailed) -> LogWriteFault {
+        LogWriteFault::Write
     }
 }

@@ -9,7 +9,7 @@ use core_program::ProgramSet;
 use core_unit::CoreUnit;
 use lease_rule::Config;
 use line_stamps::{Line, LineStamps, Rank, Reply};
-use log_file::{MemSink, MemSource, write_log};
+use log_file::{MemSource, print_log};
 use log_record::Format;
 use machine::{Pace, run_threads};
 use manager_slice::HistoryEntry;
@@ -114,10 +114,8 @@ fn log_text(alloc: Global, number: usize, units: &[CoreUnit]) -> Result<Vec<u8>,
     if number >= 2 || records.len() > 2 {
         return Err(Fail::from("two operations at most"));
     }
-    let mut text = MemSink::new(alloc, &[]);
-    let core = CoreId::at(number);
-    write_log(alloc, &mut text, Format::One, core, 2, records)?;
-    Ok(Vec::from_slice(alloc, text.bytes())?)
+    let text = print_log(alloc, Format::One, CoreId::at(number), 2, records)?;
+    Ok(text.into_bytes())
 }
 
 // Core 0 stops after its first operation. Core 1 goes on to its end, and what both did is consistent. The fault has the slice that both asked.

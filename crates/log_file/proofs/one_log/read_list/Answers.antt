@@ -35,8 +35,8 @@ pub returns-in_err-count-clause-answer : goal.returns-in_err-count-clause-answer
 returns-in_err-count-clause-answer g c =
     source_unread g.L.RecordList.records c.args.reader.core c.args.reader.cores _ c.from_residual-in_err-count.result Read c.from_residual-in_err-count.ensures.1 tt
 
-pub returns-in_err-finish-clause-answer : goal.returns-in_err-finish-clause-answer
-returns-in_err-finish-clause-answer g c =
+pub returns-in_err-check_end-clause-answer : goal.returns-in_err-check_end-clause-answer
+returns-in_err-check_end-clause-answer g c =
     let inv = c.pieces.invariant in
     let rem = g.S.ByteSource.remaining in
     let records = g.L.RecordList.records in
@@ -45,9 +45,9 @@ returns-in_err-finish-clause-answer g c =
     let end : IsAtEnd (rem c.read.new.self) = c.in_ok-count.ensures.bytes.1 zero (search rules) in
     let none : Consumes (rem c.pieces.source) (rem c.read.new.self) [] = rw zero at c.in_ok-count.ensures.bytes.0 in
     let all : Consumes (rem c.args.source.now) (rem c.read.new.self) bytes = rw (append-nil bytes) at (Consumes-trans _ (rem c.pieces.source) _ bytes [] inv.read none) in
-    let fault : IsFaultOf c.pieces.reader.core c.pieces.reader.cores bytes c.in_err-finish.field-0.0 = c.in_err-finish.ensures.ends bytes (records c.pieces.list) inv.answered in
-    source_ended records c.args.reader.core c.args.reader.cores (rem c.args.source.now) (rem c.read.new.self) c.from_residual-in_err-finish.result c.in_err-finish.field-0.0 c.from_residual-in_err-finish.ensures.1
-    bytes all end (same_log (λ core cores. IsFaultOf core cores bytes c.in_err-finish.field-0.0) inv.core inv.cores fault)
+    let fault : IsFaultOf c.pieces.reader.core c.pieces.reader.cores bytes c.in_err-check_end.field-0.0 = c.in_err-check_end.ensures.ends bytes (records c.pieces.list) inv.answered in
+    source_ended records c.args.reader.core c.args.reader.cores (rem c.args.source.now) (rem c.read.new.self) c.from_residual-in_err-check_end.result c.in_err-check_end.field-0.0 c.from_residual-in_err-check_end.ensures.1
+    bytes all end (same_log (λ core cores. IsFaultOf core cores bytes c.in_err-check_end.field-0.0) inv.core inv.cores fault)
 
 pub returns-then-count-eq0-clause-answer : goal.returns-then-count-eq0-clause-answer
 returns-then-count-eq0-clause-answer g c =
@@ -59,7 +59,7 @@ returns-then-count-eq0-clause-answer g c =
     let end : IsAtEnd (rem c.read.new.self) = c.in_ok-count.ensures.bytes.1 zero (search rules) in
     let none : Consumes (rem c.pieces.source) (rem c.read.new.self) [] = rw zero at c.in_ok-count.ensures.bytes.0 in
     let all : Consumes (rem c.args.source.now) (rem c.read.new.self) bytes = rw (append-nil bytes) at (Consumes-trans _ (rem c.pieces.source) _ bytes [] inv.read none) in
-    let spelled : Spells c.pieces.reader.core c.pieces.reader.cores bytes (records c.pieces.list) = c.in_ok-finish.ensures.ends bytes (records c.pieces.list) inv.answered in
+    let spelled : Spells c.pieces.reader.core c.pieces.reader.cores bytes (records c.pieces.list) = c.in_ok-check_end.ensures.ends bytes (records c.pieces.list) inv.answered in
     (bytes, consumes_end _ _ bytes all end, same_log (λ core cores. Spells core cores bytes (records c.pieces.list)) inv.core inv.cores spelled)
 
 pub returns-in_err-feed_all-clause-answer : goal.returns-in_err-feed_all-clause-answer
