@@ -65,8 +65,8 @@ less_fault f core index lt = elim (cases_lt f.id.core core) [
   | inr high ↦ (let same : f.id.core ≡ core = grind (arith, nat_tests) in let low : f.id.index < index = grind (arith, nat_tests) in inr (same, low))
 ]
 
-module _ {S : Type 0} {remaining : S → Option (List ℕ)} {failed : S → ℕ} {before after : List S} {lanes : List LaneParts} {numbers : List ℕ} {clean : Bool} {merged : List (List Record)} {done : List Entry}
-    (m : IsMerged remaining failed before after lanes numbers clean merged done) (ended : AllEnded lanes) where
+module _ {S : Type 0} {remaining : S → Option (List ℕ)} {failed : S → ℕ} {before after : List S} {lanes : List LaneParts} {clean : Bool} {merged : List (List Record)} {done : List Entry}
+    (m : IsMerged remaining failed before after lanes clean merged done) (ended : AllEnded lanes) where
   given : (texts : List (List ℕ)) × (TellEach remaining before texts × AreBegun texts lanes merged)
   given = begun_texts m.all
 

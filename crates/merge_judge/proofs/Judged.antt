@@ -68,8 +68,8 @@ pub record MergeSoFar {S L : Type 0} (remaining : S → Option (List ℕ)) (fail
 
 -- ---- how many records there are
 
-pub few_done : {S : Type 0} {remaining : S → Option (List ℕ)} {failed : S → ℕ} {before after : List S} {lanes : List LaneParts} {numbers : List ℕ} {clean : Bool} {merged : List (List Record)} {done : List Entry} → IsMerged remaining failed before after lanes numbers clean merged done → length done ≤ 67108864
-few_done {S} {remaining} {failed} {before} {after} {lanes} {numbers} {clean} {merged} {done} m =
+pub few_done : {S : Type 0} {remaining : S → Option (List ℕ)} {failed : S → ℕ} {before after : List S} {lanes : List LaneParts} {clean : Bool} {merged : List (List Record)} {done : List Entry} → IsMerged remaining failed before after lanes clean merged done → length done ≤ 67108864
+few_done {S} {remaining} {failed} {before} {after} {lanes} {clean} {merged} {done} m =
     let few = entries_few 0 1048576 merged (λ k w. let l = there lanes k (omega (arith, w, m.all.logs, m.all.many)) in (m.all.lane k l.0 l.1).at.few) in
     omega (arith, few, m.total, m.all.logs, m.all.few)
 
@@ -196,9 +196,9 @@ module _ {S L : Type 0} {remaining : S → Option (List ℕ)} {failed : S → �
 
 -- ---- all logs have ended
 
-module _ {S L : Type 0} {remaining : S → Option (List ℕ)} {failed : S → ℕ} {old mid : Option (List ℕ)} {failed_before failed_now : ℕ} {before after_was after : List S} {merge : Merge L} {values : List ℕ} {sources : List Source} {kept : List ℕ} {fault : Option AddressFault} {count : ℕ} {lanes : List LaneParts} {numbers : List ℕ} {clean : Bool}
+module _ {S L : Type 0} {remaining : S → Option (List ℕ)} {failed : S → ℕ} {old mid : Option (List ℕ)} {failed_before failed_now : ℕ} {before after_was after : List S} {merge : Merge L} {values : List ℕ} {sources : List Source} {kept : List ℕ} {fault : Option AddressFault} {count : ℕ} {lanes : List LaneParts} {clean : Bool}
     (s : MergeSoFar remaining failed old mid failed_before failed_now before after_was merge values sources kept fault count)
-    (m : IsMerged remaining failed before after lanes numbers clean s.merged s.done) (same : lanes ≡ merge.lanes.items) where
+    (m : IsMerged remaining failed before after lanes clean s.merged s.done) (same : lanes ≡ merge.lanes.items) where
   shown : IsShown s.order s.merged s.done lanes
   shown = subst (λ ls. IsShown s.order s.merged s.done ls) (sym same) s.shown
 

@@ -10,6 +10,7 @@ pub mod WordFacts
 pub mod WritingFacts
 pub mod Opening
 pub mod FinalVerdict
+pub mod Firsts
 pub mod Shown
 pub mod Quiet
 pub mod Texts

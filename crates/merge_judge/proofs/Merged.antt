@@ -1,10 +1,10 @@
 -- A merge, one record further.
-use Rattle.std.specs.Prelude.{◌≡◌, ◌↔◌, ◌&&◌, ℕ, ◌+◌, ◌*◌, ◌<◌, ◌≤◌, Bool, true, false, List, [], ◌∷◌, ◌++◌, refl, Option, Some, None, get_or, length, slice_get, slice_set, slice_index}
+use Rattle.std.specs.Prelude.{◌≡◌, ◌↔◌, ◌&&◌, ℕ, ◌<◌, Bool, true, false, List, [], ◌∷◌, ◌++◌, refl, Option, Some, None, get_or, length, slice_get, slice_set}
 use Rattle.std.proofs.Common.{sym, ◌∙◌, ap, subst, inl, inr, arith, length-set}
 use Rattle.std.specs.Ordering.{is_lt}
-use Rattle.std.proofs.lemmas.Bool.{and_from, and_parts, cases_eq, cases_lt}
+use Rattle.std.proofs.lemmas.Bool.{and_from, and_parts, cases_eq}
 use Rattle.std.proofs.lemmas.Bool.Decides.{nat_tests}
-use Rattle.std.proofs.lemmas.List.{get_or-set_same, get_or-set_other, length_push}
+use Rattle.std.proofs.lemmas.List.{length_push}
 use Rattle.std.proofs.lemmas.Option.{slice_get_read, slice_get_within}
 use Rattle.core_program.specs.Least.{IsLeastWhere}
 use Rattle.core_check.specs.CoreOrder.{falls, is_core_fault}
@@ -17,7 +17,7 @@ use Rattle.log_record.specs.Entries.{entry_cmp, entries}
 use Rattle.address_check.proofs.Totals.{entry_total}
 use Rattle.verdict.proofs.Lists.{set_here, set_elsewhere}
 use Rattle.merge_judge.specs.LaneParts.{LaneParts}
-use Rattle.merge_judge.specs.inner.Lanes.{AllEnded, AreLanes, AreSound, ComeBefore, IsFrontNumber, IsLaneAt, IsLaneOf, IsLeastAt, IsMerged, IsSound, IsStage, IsTaken, NoFalls, add, entry_at, front_list, log_at}
+use Rattle.merge_judge.specs.inner.Lanes.{AllEnded, AreLanes, AreSound, ComeBefore, IsFirstOf, IsLaneAt, IsLaneOf, IsMerged, IsNoLater, IsSound, IsStage, IsTaken, NoFalls, add, entry_at, front_list, log_at}
 use Rattle.merge_judge.proofs.Added.{add_here, add_long, add_other, by_key_more, entries_more}
 use Rattle.merge_judge.proofs.Falls.{fall_here_is}
 use Rattle.merge_judge.proofs.LaneFacts.{few_answered}
@@ -28,19 +28,6 @@ use Rattle.mem_op.specs.Limits.{operation_limit}
 
 -- ---- the order of keys
 
-abbrev number : Record → ℕ → ℕ
-number r core = (r.ts * 4294967296 + r.rank) * 64 + core
-
--- the front of a lesser number comes before that of another core
-number_before : (a b : Record) (c k i j : ℕ) → a.rank < 4294967296 → b.rank < 4294967296 → c < 64 → k < 64 → number a c ≤ number b k → (c ≡ k → ⊥) → is_lt (entry_cmp (entry_at c i a) (entry_at k j b)) ≡ true
-number_before a b c k i j ra rb lc lk le other = elim (cases_lt a.ts b.ts) [
-  | inl l ↦ grind (arith, nat_tests)
-  | inr ts ↦ (let same : a.ts ≡ b.ts = omega arith in elim (cases_lt a.rank b.rank) [
-    | inl l ↦ grind (arith, nat_tests)
-    | inr rank ↦ (let tied : a.rank ≡ b.rank = omega arith in let l : c < k = omega arith in grind (arith, nat_tests))
-  ])
-]
-
 -- a record that doesn't fall comes after the one before it
 next_after : (a b : Record) (core i j : ℕ) → i < j → falls (Some a) (Some b) ≡ false → is_lt (entry_cmp (entry_at core i a) (entry_at core j b)) ≡ true
 next_after a b core i j later not_falling = grind (arith, nat_tests)
@@ -50,26 +37,17 @@ next_after a b core i j later not_falling = grind (arith, nat_tests)
 pub both_true : {P : Type 0} (a b : Bool) → (b ≡ true) ↔ P → ((a && b) ≡ true) ↔ ((a ≡ true) × P)
 both_true a b is = (λ h. let t = and_parts a b h in (t.0, is.0 t.1), λ h. and_from a b h.0 (is.1 h.1))
 
-module _ {S : Type 0} {remaining : S → Option (List ℕ)} {failed : S → ℕ} {before after : List S} {lanes : List LaneParts} {numbers : List ℕ} {clean : Bool} {merged : List (List Record)} {done : List Entry}
-    (m : IsMerged remaining failed before after lanes numbers clean merged done) (core : ℕ) (inside : core < length numbers) (least : IsLeastAt numbers core) (lane : LaneParts) (value : lane ≡ get_or lanes core lane) where
-  in_lanes : core < length lanes
-  in_lanes = omega (arith, inside, m.all.many, m.all.fronts)
-
+module _ {S : Type 0} {remaining : S → Option (List ℕ)} {failed : S → ℕ} {before after : List S} {lanes : List LaneParts} {clean : Bool} {merged : List (List Record)} {done : List Entry}
+    (m : IsMerged remaining failed before after lanes clean merged done) (core : ℕ) (in_lanes : core < length lanes) (first : IsFirstOf (length lanes) core lanes) (lane : LaneParts) (value : lane ≡ get_or lanes core lane) where
   lane_is : slice_get lanes core ≡ Some lane
   lane_is = slice_get_read lanes (length lanes) core lane refl in_lanes value
 
-  number_of : (k : ℕ) (l : LaneParts) (o : Option Record) → slice_get lanes k ≡ Some l → l.front ≡ o → IsFrontNumber k o (slice_index numbers k) × (slice_index numbers core ≤ slice_index numbers k) × (k < 64)
-  number_of k l o h is =
-      let w = slice_get_within lanes k l h in
-      (subst (λ p. IsFrontNumber k p (slice_index numbers k)) is (m.all.number k l h), least k (omega (arith, w, m.all.many, m.all.fronts)), omega (arith, w, m.all.many, m.all.few))
+  no_later : (k : ℕ) (l : LaneParts) → slice_get lanes k ≡ Some l → IsNoLater core lane.front k l.front
+  no_later k l h = first lane lane_is k l (slice_get_within lanes k l h) h
 
-  -- where the least front is none, all logs have ended
+  -- where the first front is none, all logs have ended
   pub all_ended : lane.front ≡ None → AllEnded lanes
-  all_ended none k l h = go l.front refl
-    where
-      go : (o : Option Record) → l.front ≡ o → l.front ≡ None
-      go None e = e
-      go (Some r) e = absurd (let n = number_of k l (Some r) h e in let greatest = (number_of core lane None lane_is none).0 in omega (arith, n.0.0, n.0.1, n.0.2, n.1, n.2, greatest))
+  all_ended none k l h = subst (λ o. IsNoLater core o k l.front) none (no_later k l h)
 
   module _ (r : Record) (front_is : lane.front ≡ Some r) where
     now : IsLaneOf remaining failed before after core lane (log_at merged core)
@@ -94,10 +72,9 @@ module _ {S : Type 0} {remaining : S → Option (List ℕ)} {failed : S → ℕ}
       others = λ k other. set_elsewhere lanes core k lane_new other;
     }
 
-    module _ (source source_new : S) (source_is : slice_get after core ≡ Some source) (lane_new : LaneParts) (n : ℕ) (clean_new : Bool)
+    module _ (source source_new : S) (source_is : slice_get after core ≡ Some source) (lane_new : LaneParts) (clean_new : Bool)
         (advanced : (c cs : ℕ) (b : S) (rs : List Record) (f : Record) → lane.front ≡ Some f → IsLaneAt remaining failed c cs b source lane rs → IsLaneAt remaining failed c cs b source_new lane_new (rs ++ f ∷ []))
         (known_falls : lane_new.falls ≡ None → lane.falls ≡ None)
-        (number_new : IsFrontNumber core lane_new.front n)
         (clean_is : (clean_new ≡ true) ↔ ((clean ≡ true) × IsSound lane_new)) where
       abbrev e : Entry
       e = entry_at core (length (log_at merged core)) r
@@ -131,20 +108,17 @@ module _ {S : Type 0} {remaining : S → Option (List ℕ)} {failed : S → ℕ}
       sound_before : AreSound lanes_new → AreSound lanes
       sound_before h = each_by (λ k l. IsSound l) lanes core lane lane_is (known_falls (h core lane_new here).0, stage.0) (λ k l other hl. h k l (elsewhere k other ∙ hl))
 
-      lanes_are : AreLanes remaining failed before (slice_set after core source_new) (length before) lanes_new (slice_set numbers core n) clean_new logs_new
+      lanes_are : AreLanes remaining failed before (slice_set after core source_new) (length before) lanes_new clean_new logs_new
       lanes_are = record {
         readers = length-set after core source_new ∙ m.all.readers;
         some = m.all.some;
         few = m.all.few;
         logs = add_long merged core r ∙ m.all.logs;
         many = length-set lanes core lane_new ∙ m.all.many;
-        fronts = length-set numbers core n ∙ m.all.fronts;
         lane = each_by (λ k l. IsLaneOf remaining failed before (slice_set after core source_new) k l (log_at logs_new k)) lanes_new core lane_new here
             (record { first = now.first; now = source_new; is_first = now.is_first; is_now = set_here after core source_new (slice_get_within after core source source_is); at = rw logs_here at_new })
             (λ k l other hl. (let a = m.all.lane k l (sym (elsewhere k other) ∙ hl) in
             record { first = a.first; now = a.now; is_first = a.is_first; is_now = set_elsewhere after core k source_new other ∙ a.is_now; at = rw (add_other merged core k r other) a.at }));
-        number = each_by (λ k l. IsFrontNumber k l.front (slice_index (slice_set numbers core n) k)) lanes_new core lane_new here (rw (get_or-set_same numbers core n 0 inside) number_new)
-            (λ k l other hl. rw (get_or-set_other numbers core k n 0 other) (m.all.number k l (sym (elsewhere k other) ∙ hl)));
         clean_is = (
           λ h. each_by (λ k l. IsSound l) lanes_new core lane_new here (clean_is.0 h).1 (λ k l other hl. m.all.clean_is.0 (clean_is.0 h).0 k l (sym (elsewhere k other) ∙ hl)),
           λ h. clean_is.1 (m.all.clean_is.1 (sound_before h), h core lane_new here),
@@ -159,8 +133,8 @@ module _ {S : Type 0} {remaining : S → Option (List ℕ)} {failed : S → ℕ}
       taken_before h = each_by (λ k l. (f : Record) → l.front ≡ Some f → is_lt (entry_cmp e (entry_at k (length (log_at logs_new k)) f)) ≡ true) lanes_new core lane_new here
           (λ f hf. (let steady : falls (Some r) (Some f) ≡ false = fall_here_is (log_at merged core) r f lane_new.falls (subst (λ o. IsLeastWhere (is_core_fault ((log_at merged core ++ r ∷ []) ++ front_list o)) lane_new.falls) hf at_new.first_fall) (h core lane_new here) in
           next_after r f core (length (log_at merged core)) (length (log_at logs_new core)) (omega (arith, ap length logs_here, length_push (log_at merged core) r)) steady))
-          (λ k l other hl f hf. (let a = number_of core lane (Some r) lane_is front_is in let b = number_of k l (Some f) (sym (elsewhere k other) ∙ hl) hf in
-          number_before r f core k (length (log_at merged core)) (length (log_at logs_new k)) a.0.2 b.0.2 a.2 b.2 (omega (arith, a.0.0, b.0.0, b.1)) (λ same. other (sym same))))
+          (λ k l other hl f hf.
+          subst (λ o. IsNoLater core o k (Some f)) front_is (subst (λ o. IsNoLater core lane.front k o) hf (no_later k l (sym (elsewhere k other) ∙ hl))) other (length (log_at merged core)) (length (log_at logs_new k)))
 
       come_before_new : NoFalls lanes_new → ComeBefore (done ++ e ∷ []) lanes_new logs_new
       come_before_new h x p k l f hl hf = elim (In-append x done (e ∷ []) p) [
@@ -174,7 +148,7 @@ module _ {S : Type 0} {remaining : S → Option (List ℕ)} {failed : S → ℕ}
         ]
       ]
 
-      pub merged_more : IsMerged remaining failed before (slice_set after core source_new) lanes_new (slice_set numbers core n) clean_new logs_new (done ++ e ∷ [])
+      pub merged_more : IsMerged remaining failed before (slice_set after core source_new) lanes_new clean_new logs_new (done ++ e ∷ [])
       merged_more = record {
         all = lanes_are;
         total = omega (arith, entries_more merged core r in_logs, length_push done e, m.total);

@@ -27,8 +27,8 @@ same_counts failed (b ∷ old) (a ∷ new) (suc n) long same =
     let rest : map failed (take n new) ≡ map failed (take n old) = same_counts failed old new n (omega (arith, long)) (λ k x y l p q. same (suc k) x y (omega arith) p q) in
     cc
 
-module _ {S : Type 0} {remaining : S → Option (List ℕ)} {failed : S → ℕ} {before after : List S} {lanes : List LaneParts} {numbers : List ℕ} {clean : Bool} {merged : List (List Record)}
-    (m : AreLanes remaining failed before after (length before) lanes numbers clean merged) where
+module _ {S : Type 0} {remaining : S → Option (List ℕ)} {failed : S → ℕ} {before after : List S} {lanes : List LaneParts} {clean : Bool} {merged : List (List Record)}
+    (m : AreLanes remaining failed before after (length before) lanes clean merged) where
   -- the readers of the first n files, none of whose logs has a failed read
   pub quiet_to : (n : ℕ) → ((k : ℕ) (l : LaneParts) → k < n → slice_get lanes k ≡ Some l → l.fault ≡ Some Read → ⊥) → NoneFailedOf n failed before after
   quiet_to n sound = same_counts failed before after n m.readers (λ k b a less hb ha.

@@ -142,8 +142,8 @@ module _ (order : List OpId) (merged : List (List Record)) (done : List Entry) (
     next = next_still;
   }
 
-module _ {S : Type 0} {remaining : S → Option (List ℕ)} {failed : S → ℕ} {before after : List S} {lanes : List LaneParts} {numbers : List ℕ} where
-  shown_now : (merged : List (List Record)) (done : List Entry) (order : List OpId) → IsMerged remaining failed before after lanes numbers true merged done → None ≡ first_along [] done → order ≡ ids done → IsShown order merged done lanes
+module _ {S : Type 0} {remaining : S → Option (List ℕ)} {failed : S → ℕ} {before after : List S} {lanes : List LaneParts} where
+  shown_now : (merged : List (List Record)) (done : List Entry) (order : List OpId) → IsMerged remaining failed before after lanes true merged done → None ≡ first_along [] done → order ≡ ids done → IsShown order merged done lanes
   shown_now merged done order m none is = record {
     logs = merged;
     many = refl;
@@ -180,12 +180,12 @@ module _ {S : Type 0} {remaining : S → Option (List ℕ)} {failed : S → ℕ}
           subst (λ rs. (i : ℕ) → is_core_fault rs i ≡ false) (get_or_from_slice_get merged k log [] h) (never_front (log_at merged k) (front_list l.0.front) none_falls)
 
   in_merged : (merged : List (List Record)) (done : List Entry) (e : Entry) (clean : Bool) (old : List LaneParts) → IsTaken e.id.core e.logged old lanes
-      → IsMerged remaining failed before after lanes numbers clean (add merged e.id.core e.logged) (done ++ e ∷ []) → e.id.core < length merged
+      → IsMerged remaining failed before after lanes clean (add merged e.id.core e.logged) (done ++ e ∷ []) → e.id.core < length merged
   in_merged merged done e clean old taken m =
       omega (arith, slice_get_within old e.id.core taken.front.0 taken.front.1, taken.many, m.all.many, m.all.logs, add_long merged e.id.core e.logged)
 
   pub shown_more : (merged : List (List Record)) (done : List Entry) (order : List OpId) (e : Entry) (fault : Option AddressFault) (clean : Bool)
-      → (old : List LaneParts) → IsTaken e.id.core e.logged old lanes → IsShown order merged done old → IsMerged remaining failed before after lanes numbers clean (add merged e.id.core e.logged) (done ++ e ∷ [])
+      → (old : List LaneParts) → IsTaken e.id.core e.logged old lanes → IsShown order merged done old → IsMerged remaining failed before after lanes clean (add merged e.id.core e.logged) (done ++ e ∷ [])
       → fault ≡ first_along [] (done ++ e ∷ []) → (fault ≡ None → clean ≡ true → order_where (is_none fault && clean) order e.id ≡ ids (done ++ e ∷ []))
       → IsShown (order_where (is_none fault && clean) order e.id) (add merged e.id.core e.logged) (done ++ e ∷ []) lanes
   shown_more merged done order e None true old taken h m first all = shown_now (add merged e.id.core e.logged) (done ++ e ∷ []) (order ++ e.id ∷ []) m first (all refl refl)

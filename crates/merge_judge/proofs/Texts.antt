@@ -45,9 +45,9 @@ begun_stage core cores first still log merged None None h =
 begun_stage core cores first still log merged None (Some f) h =
     (h.text, (h.tells, record { begins = rw append-nil h.begins; whole = λ none sound. absurd cc; faults = λ g found. (let same : g ≡ f = cc in rw same h.holds) }))
 
-pub begun_texts : {S : Type 0} {remaining : S → Option (List ℕ)} {failed : S → ℕ} {before after : List S} {lanes : List LaneParts} {numbers : List ℕ} {clean : Bool} {merged : List (List Record)}
-    → AreLanes remaining failed before after (length before) lanes numbers clean merged → (texts : List (List ℕ)) × (TellEach remaining before texts × AreBegun texts lanes merged)
-begun_texts {S} {remaining} {failed} {before} {after} {lanes} {numbers} {clean} {merged} m = (
+pub begun_texts : {S : Type 0} {remaining : S → Option (List ℕ)} {failed : S → ℕ} {before after : List S} {lanes : List LaneParts} {clean : Bool} {merged : List (List Record)}
+    → AreLanes remaining failed before after (length before) lanes clean merged → (texts : List (List ℕ)) × (TellEach remaining before texts × AreBegun texts lanes merged)
+begun_texts {S} {remaining} {failed} {before} {after} {lanes} {clean} {merged} m = (
   all.0,
   (
     tell_each remaining before all.0 many (λ k b hb. (let l = there lanes k (omega (arith, slice_get_within before k b hb, m.many)) in let t = (all.1.1 k l.0 l.1).0 in

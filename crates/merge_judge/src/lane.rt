@@ -40,7 +40,7 @@ impl<L: Reading> Model for Lane<L> {
 }
 
 /// Whether `(ts, rank)` of the later record is less than that of the earlier.
-fn falls(earlier: &Option<Record>, later: &Option<Record>) -> bool
+pub(crate) fn falls(earlier: &Option<Record>, later: &Option<Record>) -> bool
     ensures { result ≡ falls earlier.now later.now }
 {
     match (earlier, later) {

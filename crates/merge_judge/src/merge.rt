@@ -3,10 +3,10 @@
 ghost use Rattle.std.specs.Prelude.{◌≡◌, ◌<◌, ◌≤◌, ◌∷◌, ◌++◌, ℕ, List, [], Some, None, IfOk, MatchOption, length, true};
 ghost use Rattle.log_record.specs.declared.record.Record.{Record};
 ghost use Rattle.log_record.specs.declared.record.Entry.{Entry};
-ghost use Rattle.merge_judge.specs.inner.Lanes.{AllEnded, IsFrontNumber, IsLeastAt, IsTaken, add};
+ghost use Rattle.merge_judge.specs.inner.Lanes.{AllEnded, IsFirstOf, IsTaken, add};
 ghost use Rattle.merge_judge.specs.inner.Merging.{Fit, HasMerged, IsMerging, none_of};
 
-use super::lane::Lane;
+use super::lane::{Lane, falls};
 use super::record_source::{Reading, RecordSource};
 use log_record::{Entry, Record};
 use mem_op::{CoreId, OpId, OpIndex};
@@ -17,41 +17,24 @@ use std::alloc::{AllocError, Global};
 pub(crate) struct Merge<L: Reading> {
     /// The logs, one for each core.
     pub(crate) lanes: Vec<Lane<L>>,
-    /// The numbers of their fronts.
-    pub(crate) fronts: Vec<u128>,
     /// Whether no log has a fault so far.
     pub(crate) clean: bool,
 }
 
-/// The number of a front: its stamp, rank and core as one number, or, without a front, the greatest
-/// number of all. Comparing these takes no branch.
-fn front_number(front: &Option<Record>, core: usize) -> u128
-    requires { core < 64 }
-    ensures { IsFrontNumber core front.now result }
+/// The core whose front is first in the order of keys; any core if all logs have ended.
+fn first<L: Reading>(lanes: &[Lane<L>]) -> usize
+    requires { 0 < length lanes.now }
+    ensures within { result < length lanes.now }
+    ensures first { IsFirstOf (length lanes.now) result lanes.now }
 {
-    match front {
-        Some(logged) => {
-            let moment = u128::from(logged.ts.get()) * 4_294_967_296
-                + u128::from(logged.rank.get());
-            moment * 64 + core as u128
-        }
-        None => u128::MAX,
-    }
-}
-
-/// The place of the least number, the first one if they tie.
-fn least(numbers: &[u128]) -> usize
-    requires { 0 < length numbers.now }
-    ensures within { result < length numbers.now }
-    ensures least { IsLeastAt numbers.now result }
-{
-    let mut least = 0;
-    for place in 1..numbers.len() {
-        if numbers[place] < numbers[least] {
-            least = place;
+    let mut first = 0;
+    for core in 1..lanes.len() {
+        let least = lanes[first].front();
+        if least.is_none() || falls(least, lanes[core].front()) {
+            first = core;
         }
     }
-    least
+    first
 }
 
 impl<L: Reading> Merge<L> {
@@ -68,19 +51,13 @@ impl<L: Reading> Merge<L> {
     {
         let cores = readers.len() as u64;
         let mut lanes = Vec::new(alloc);
-        let mut numbers = Vec::new(alloc);
         let mut clean = true;
         for (core, reader) in readers.iter_mut().enumerate() {
             let lane = Lane::new(alloc, CoreId::at(core), cores, reader)?;
             clean &= lane.is_clean();
-            numbers.push(front_number(lane.front(), core))?;
             lanes.push(lane)?;
         }
-        Ok(Merge {
-            lanes,
-            fronts: numbers,
-            clean,
-        })
+        Ok(Merge { lanes, clean })
     }
 
     /// Takes the front with the least key, and reads the record after it; None if all logs have ended.
@@ -97,7 +74,7 @@ impl<L: Reading> Merge<L> {
             (λ entry. HasMerged S.remaining S.failed before readers.new self.new
             (add merged entry.id.core entry.logged) (done ++ entry ∷ [])) }
     {
-        let core = least(&self.fronts);
+        let core = first(&self.lanes);
         let lane = &mut self.lanes[core];
         let Some(front) = lane.front() else {
             return None;
@@ -108,9 +85,7 @@ impl<L: Reading> Merge<L> {
             id: OpId { core: place, index },
         };
         lane.advance(&mut readers[core]);
-        let clean = lane.is_clean();
-        self.fronts[core] = front_number(lane.front(), core);
-        self.clean &= clean;
+        self.clean &= lane.is_clean();
         Some(entry)
     }
 }

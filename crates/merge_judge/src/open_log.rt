@@ -40,13 +40,6 @@ impl Model for OpenLog {
     ghost invariant = { IsWithin };
 }
 
-/// Room for a piece.
-fn room(alloc: Global) -> Result<Vec<u8>, AllocError>
-    ensures { IfOk result (λ piece. 0 < length piece.items) }
-{
-    vec![in alloc; 0u8; LOG_PIECE_BYTES]
-}
-
 impl OpenLog {
     /// The log of this core of `cores`, before the first read. Err if memory was refused.
     fn new(alloc: Global, core: CoreId, cores: u64) -> Result<OpenLog, AllocError>
@@ -57,10 +50,9 @@ impl OpenLog {
         ensures none { IfOk result (λ log. HasAnswered log.reader [] []) }
         ensures unused { IfOk result (λ log. log.unused ≡ []) }
     {
-        let piece = room(alloc)?;
         Ok(OpenLog {
             reader: RecordReader::new(core, cores),
-            piece,
+            piece: vec![in alloc; 0u8; LOG_PIECE_BYTES]?,
             used: 0,
             filled: 0,
         })

@@ -1,5 +1,5 @@
 -- The logs of a set while they are merged.
-use Rattle.std.specs.Prelude.{◌≡◌, ◌↔◌, ℕ, zero, suc, ◌+◌, ◌*◌, ◌<◌, ◌≤◌, Bool, true, List, [], ◌∷◌, ◌++◌, Option, None, Some, if◌then◌else◌, length, slice_get, slice_index, slice_index_or}
+use Rattle.std.specs.Prelude.{◌≡◌, ◌↔◌, ℕ, zero, suc, ◌<◌, ◌≤◌, Bool, true, List, [], ◌∷◌, ◌++◌, Option, None, Some, if◌then◌else◌, length, slice_get, slice_index_or}
 use Rattle.std.specs.Ordering.{is_lt}
 use Rattle.mem_op.specs.Limits.{operation_limit}
 use Rattle.line_stamps.specs.Ordered.{In}
@@ -59,10 +59,17 @@ log_at logs core = slice_index_or logs core []
 abbrev pub entry_at : ℕ → ℕ → Record → Entry
 entry_at core index r = record { id = record { core = core; index = index }; logged = r }
 
--- (ts, rank, core) of a front as one number, or the greatest number of 128 bits if there is no front
-abbrev pub IsFrontNumber : ℕ → Option Record → ℕ → Type 0
-IsFrontNumber core None n = n ≡ 340282366920938463463374607431768211455
-IsFrontNumber core (Some r) n = (n ≡ (r.ts * 4294967296 + r.rank) * 64 + core) × (r.ts ≤ 281474976710656) × (r.rank < 4294967296)
+-- the front of a core is none only if the other front is, too, and is before it by key if that is another core's
+abbrev pub IsNoLater : ℕ → Option Record → ℕ → Option Record → Type 0
+IsNoLater core None k other = other ≡ None
+IsNoLater core (Some r) k None = Unit {0}
+IsNoLater core (Some r) k (Some f) = (k ≡ core → ⊥) → (i j : ℕ) → is_lt (entry_cmp (entry_at core i r) (entry_at k j f)) ≡ true
+
+-- none of the first n fronts is before that of this core
+abbrev pub IsFirstOf : ℕ → ℕ → List LaneParts → Type 0
+IsFirstOf n core lanes =
+    (lane : LaneParts) → slice_get lanes core ≡ Some lane → (k : ℕ) (l : LaneParts) → k < n → slice_get lanes k ≡ Some l
+    → IsNoLater core lane.front k l.front
 
 -- no log falls
 abbrev pub NoFalls : List LaneParts → Type 0
@@ -84,10 +91,6 @@ ComeBefore done lanes merged =
     (x : Entry) → In x done → (k : ℕ) (lane : LaneParts) (r : Record) → slice_get lanes k ≡ Some lane → lane.front ≡ Some r
     → is_lt (entry_cmp x (entry_at k (length (log_at merged k)) r)) ≡ true
 
--- no number is less than the one at this place
-abbrev pub IsLeastAt : List ℕ → ℕ → Type 0
-IsLeastAt numbers place = (k : ℕ) → k < length numbers → slice_index numbers place ≤ slice_index numbers k
-
 -- all logs have ended
 abbrev pub AllEnded : List LaneParts → Type 0
 AllEnded lanes = (k : ℕ) (lane : LaneParts) → slice_get lanes k ≡ Some lane → lane.front ≡ None
@@ -101,20 +104,18 @@ pub record IsLaneOf {S : Type 0} (remaining : S → Option (List ℕ)) (failed :
   pub at : IsLaneAt remaining failed core (length before) first now lane merged
 
 -- the first n logs are merged up to and including these records; `clean` says whether no fault was found in them
-pub record AreLanes {S : Type 0} (remaining : S → Option (List ℕ)) (failed : S → ℕ) (before after : List S) (n : ℕ) (lanes : List LaneParts) (numbers : List ℕ) (clean : Bool) (merged : List (List Record)) : Type 0 where
+pub record AreLanes {S : Type 0} (remaining : S → Option (List ℕ)) (failed : S → ℕ) (before after : List S) (n : ℕ) (lanes : List LaneParts) (clean : Bool) (merged : List (List Record)) : Type 0 where
   pub readers : length after ≡ length before
   pub some : 0 < length before
   pub few : length before ≤ 64
   pub logs : length merged ≡ length before
   pub many : length lanes ≡ n
-  pub fronts : length numbers ≡ n
   pub lane : (k : ℕ) (l : LaneParts) → slice_get lanes k ≡ Some l → IsLaneOf remaining failed before after k l (log_at merged k)
-  pub number : (k : ℕ) (l : LaneParts) → slice_get lanes k ≡ Some l → IsFrontNumber k l.front (slice_index numbers k)
   pub clean_is : (clean ≡ true) ↔ AreSound lanes
 
 -- all logs are merged so far; if no log falls, the records were done in the order of their keys
-pub record IsMerged {S : Type 0} (remaining : S → Option (List ℕ)) (failed : S → ℕ) (before after : List S) (lanes : List LaneParts) (numbers : List ℕ) (clean : Bool) (merged : List (List Record)) (done : List Entry) : Type 0 where
-  pub all : AreLanes remaining failed before after (length before) lanes numbers clean merged
+pub record IsMerged {S : Type 0} (remaining : S → Option (List ℕ)) (failed : S → ℕ) (before after : List S) (lanes : List LaneParts) (clean : Bool) (merged : List (List Record)) (done : List Entry) : Type 0 where
+  pub all : AreLanes remaining failed before after (length before) lanes clean merged
   pub total : length done ≡ length (entries merged)
   pub by_key_so_far : NoFalls lanes → done ≡ by_key merged
   pub come_before : NoFalls lanes → ComeBefore done lanes merged

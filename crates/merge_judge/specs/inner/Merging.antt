@@ -8,7 +8,7 @@ use Rattle.merge_judge.specs.inner.Lanes.{IsMerged}
 -- the merge has taken these records from the readers, which stood at `before` and are now at `after`
 abbrev pub HasMerged : {S L : Type 0} → (S → Option (List ℕ)) → (S → ℕ) → List S → List S → Merge L → List (List Record) → List Entry → Type 0
 HasMerged remaining failed before after merge merged done =
-    IsMerged remaining failed before after merge.lanes.items merge.fronts.items merge.clean merged done
+    IsMerged remaining failed before after merge.lanes.items merge.clean merged done
 
 abbrev pub IsMerging : {S L : Type 0} → (S → Option (List ℕ)) → (S → ℕ) → List S → Merge L → Type 0
 IsMerging {S} remaining failed after merge =

@@ -1,14 +1,10 @@
 -- What is merged is answered; and where the number of files is out of range, nothing is read.
-use Rattle.std.proofs.Common.{Err, map, subst}
-use Rattle.std.specs.Prelude.{IfSome}
+use Rattle.std.proofs.Common.{map}
 use Rattle.std.proofs.lemmas.Result.{err_from_is_err_and}
-use Rattle.verdict.specs.Judgement.{IsAnswerTo}
 use Rattle.verdict.specs.VerdictOf.{verdict_of}
 use Rattle.verdict.proofs.Soundness.{bad_count_answers}
 use Rattle.log_file.proofs.Devices.{told}
 use Rattle.log_file.proofs.Sets.{each_tells}
-use Rattle.merge_judge.specs.Answer.{IsQuietUpTo, judged}
-use Rattle.merge_judge.specs.declared.merge_fault.MergeFault.{MergeFault}
 use Rattle.merge_judge.proofs.judging.merged_verdict.Goals as goal
 
 pub returns-in_err-check_counts-clause-exact : goal.returns-in_err-check_counts-clause-exact

@@ -1,9 +1,8 @@
 -- One log after another.
 use Rattle.std.proofs.Common.{◌≡◌, [], Some, length, arith, ap, subst, refl, ◌∙◌}
-use Rattle.std.specs.Prelude.{◌&&◌, Option, get_or, slice_get}
+use Rattle.std.specs.Prelude.{◌&&◌, get_or, slice_get}
 use Rattle.std.proofs.lemmas.Option.{slice_get_read}
-use Rattle.log_record.specs.declared.record.Record.{Record}
-use Rattle.merge_judge.specs.inner.Lanes.{IsFrontNumber, IsLaneAt}
+use Rattle.merge_judge.specs.inner.Lanes.{IsLaneAt}
 use Rattle.merge_judge.proofs.Merged.{both_true}
 use Rattle.merge_judge.proofs.Opening.{all_opened, opened_more}
 use Rattle.merge_judge.proofs.merge.Merge.new.Goals as goal
@@ -19,10 +18,10 @@ loop-core-preserved g c =
     let source_is : slice_get readers core ≡ Some source = slice_get_read readers (length readers) core c.index-readers-core.result refl (omega (arith, loop.auto.readers, c.loop-core-test.true)) c.index-readers-core.is ∙ ap (λ s. Some s) c.index-readers-core.is in
     let at : IsLaneAt g.S.RecordSource.remaining g.S.RecordSource.failed core (length c.args.readers.now) source c.new.new.source lane [] =
     subst (λ n. IsLaneAt g.S.RecordSource.remaining g.S.RecordSource.failed n (length c.args.readers.now) source c.new.new.source lane []) c.at.ensures c.in_ok-lane.ensures in
-    let more = opened_more inv.opened source c.new.new.source source_is lane c.front_number.result (loop.clean && c.is_clean-clean.result) at (subst (λ (o : Option Record). IsFrontNumber core o c.front_number.result) c.front.ensures c.front_number.ensures)
+    let more = opened_more inv.opened source c.new.new.source source_is lane (loop.clean && c.is_clean-clean.result) at
     (both_true loop.clean c.is_clean-clean.result c.is_clean-clean.ensures) in
     record {
-      opened = rw (c.in_ok-push-2.ensures.items, c.in_ok-push.ensures.items) more;
+      opened = rw c.in_ok-push.ensures.items more;
       cores = refl;
     }
 
