@@ -1,6 +1,6 @@
 //! Checks the units and slices that threads gave back.
 
-ghost use Rattle.std.specs.Prelude.{◌≡◌, ◌≢◌, ◌<◌, ◌≤◌, ◌⊎◌, length, slice_get, Some, IfSome, IfOk, IfErr, OnOk, MatchBool, MatchOption, MatchResult};
+ghost use Rattle.std.specs.Prelude.{◌≡◌, ◌<◌, ◌≤◌, ◌⊎◌, length, slice_get, Some, IfSome, IfOk, IfErr, OnOk, MatchBool, MatchOption, MatchResult};
 ghost use Rattle.audit.specs.Runs.{AllEnded, AllNumbered, HasEnded, IsFirstReport, IsNumbered, IsRun, IsRunFault, IsShort, MayReport, NoneReports, RefusesRun, Reports, StoppedShort};
 ghost use Rattle.audit.specs.declared.machine_fault.Cause.{Cause};
 ghost use Rattle.audit.specs.declared.machine_fault.Cause.TheVariants.{GaveUp, Stopped};
@@ -14,13 +14,6 @@ use core_unit::laws::logs_are_fronts;
 use lease_rule::Config;
 use manager_slice::ManagerSlice;
 use mem_op::CoreId;
-
-// Whether two configurations are the same.
-fn is_config(one: &Config, other: &Config) -> bool
-    ensures { MatchBool result (one.now ≡ other.now) (one.now ≢ other.now) }
-{
-    one == other
-}
 
 // The program of a core that the set has.
 fn program_at(programs: &ProgramSet, core: usize) -> &Program
@@ -42,22 +35,11 @@ fn has_ended(unit: &CoreUnit, core: usize, programs: &ProgramSet, config: &Confi
     logs_are_fronts();
     let program = program_at(programs, core);
     let _shape = program.instructions();
-    if unit.core().get() as usize != core {
-        return false;
-    }
-    if !unit.program().is_same(program) {
-        return false;
-    }
-    if !is_config(unit.config(), config) {
-        return false;
-    }
-    if unit.in_hand().is_some() {
-        return false;
-    }
-    if unit.program_state().next_op(program).is_some() {
-        return false;
-    }
-    true
+    unit.core().get() as usize == core
+        && unit.program().is_same(program)
+        && unit.config() == config
+        && unit.in_hand().is_none()
+        && unit.program_state().next_op(program).is_none()
 }
 
 // Whether a unit is this core's, has its program, and has operations left.
@@ -71,16 +53,9 @@ fn is_short(unit: &CoreUnit, core: usize, programs: &ProgramSet) -> bool
     logs_are_fronts();
     let program = program_at(programs, core);
     let _shape = program.instructions();
-    if unit.core().get() as usize != core {
-        return false;
-    }
-    if !unit.program().is_same(program) {
-        return false;
-    }
-    if unit.program_state().next_op(program).is_none() {
-        return false;
-    }
-    true
+    unit.core().get() as usize == core
+        && unit.program().is_same(program)
+        && unit.program_state().next_op(program).is_some()
 }
 
 // Whether a slice has this number and configuration.
@@ -90,13 +65,7 @@ fn is_numbered(slice: &ManagerSlice, number: usize, config: &Config) -> bool
         (¬ IsNumbered config.now number slice.now) }
 {
     slice.replays();
-    if slice.number() != number {
-        return false;
-    }
-    if !is_config(slice.config(), config) {
-        return false;
-    }
-    true
+    slice.number() == number && slice.config() == config
 }
 
 // Whether each unit has run its core's program to the end.
@@ -199,11 +168,7 @@ fn report_of(
         ((cause : Cause) → ¬ Reports programs.now.programs units.now faults.now core cause)
         (λ cause. Reports programs.now.programs units.now faults.now core cause) }
 {
-    let cause = faults[core]?;
-    if !reports(programs, units, core, cause) {
-        return None;
-    }
-    Some(cause)
+    faults[core].filter(|cause| reports(programs, units, core, *cause))
 }
 
 // The least core that has a fault to report.

@@ -49,14 +49,7 @@ fn set_due(due: &mut [usize], slice: usize, value: usize)
 fn is_alone(units: &[CoreUnit], core: usize, at: usize) -> bool
     ensures { result ≡ goes_alone (transcript_of (transcripts units.now) core) at }
 {
-    match entry_at(units, core, at) {
-        None => false,
-        Some(CoreEntry::Got(..)) => false,
-        Some(CoreEntry::Performed) => true,
-        Some(CoreEntry::Dropped(_)) => true,
-        Some(CoreEntry::Gave(_)) => true,
-        Some(CoreEntry::Bumped) => true,
-    }
+    !matches!(entry_at(units, core, at), None | Some(CoreEntry::Got(..)))
 }
 
 // Whether a core takes this reply to this message at a place.
@@ -67,11 +60,7 @@ fn is_got(units: &[CoreUnit], core: usize, at: usize, message: &Message, reply: 
 {
     match &entry_at(units, core, at) {
         Some(CoreEntry::Got(asked, answer)) => is_same(asked, answer, message, reply),
-        None => false,
-        Some(CoreEntry::Performed) => false,
-        Some(CoreEntry::Dropped(_)) => false,
-        Some(CoreEntry::Gave(_)) => false,
-        Some(CoreEntry::Bumped) => false,
+        _ => false,
     }
 }
 
@@ -83,11 +72,7 @@ fn waited_for(units: &[CoreUnit], core: usize, at: usize, count: usize) -> Optio
 {
     match entry_at(units, core, at) {
         Some(CoreEntry::Got(message, _)) => Some(slice_of(count, message.addr())),
-        None => None,
-        Some(CoreEntry::Performed) => None,
-        Some(CoreEntry::Dropped(_)) => None,
-        Some(CoreEntry::Gave(_)) => None,
-        Some(CoreEntry::Bumped) => None,
+        _ => None,
     }
 }
 
@@ -110,13 +95,9 @@ fn slice_step(
         Some(HistoryEntry::Evicted(_)) => Some(SliceStep::Evicts),
         Some(HistoryEntry::Served(by, message, reply)) => {
             let core = by.get() as usize;
-            if !is_got(units, core, places.cores[core], message, reply) {
-                return None;
-            }
-            if slice_of(slices.len(), message.addr()) != slice {
-                return None;
-            }
-            Some(SliceStep::Passes(core))
+            let passes = is_got(units, core, places.cores[core], message, reply)
+                && slice_of(slices.len(), message.addr()) == slice;
+            passes.then_some(SliceStep::Passes(core))
         }
     }
 }

@@ -91,11 +91,5 @@ pub(crate) fn is_same(asked: &Message, answer: &Reply, message: &Message, reply:
         (Got asked.now answer.now ≡ Got message.now reply.now)
         (Got asked.now answer.now ≢ Got message.now reply.now) }
 {
-    if !is_message(asked, message) {
-        return false;
-    }
-    if !is_reply(answer, reply) {
-        return false;
-    }
-    true
+    is_message(asked, message) && is_reply(answer, reply)
 }
