@@ -1,11 +1,10 @@
 //! The events that a machine keeps.
 
-ghost use Rattle.std.specs.Prelude.{◌≡◌, ◌∷◌, ◌++◌, [], IfSome, IsSomeAnd, OnOk};
+ghost use Rattle.std.specs.Prelude.{◌≡◌, ◌∷◌, ◌++◌, [], IfSome, IsSomeAnd};
 ghost use Rattle.tardis_core.specs.Keeping.{LeadTo};
 
 use super::machine::Core;
 use core_machine::Event;
-use std::alloc::AllocError;
 
 impl Core {
     /// The events that it has performed since its start, in order, those without effect among them; none
@@ -20,35 +19,16 @@ impl Core {
     }
 }
 
-/// Keeps an event behind those before it, if events are kept.
-#[inline(always)]
+/// Keeps an event behind those before it, if events are kept. A refused growth ends the keeping, since it may
+/// not refuse the event.
 pub(crate) fn keep(kept: &mut Option<Vec<Event>>, event: &Event)
-    ensures { IfSome kept.new (λ events. IsSomeAnd kept.old
-        (λ before. events.items ≡ before.items ++ event.now ∷ [])) }
-{
-    if kept.is_some() {
-        append(kept, event);
-    }
-}
-
-// Appends an event to those that are kept. A refused growth ends the keeping, since it may not refuse the event.
-fn append(kept: &mut Option<Vec<Event>>, event: &Event)
     ensures { IfSome kept.new (λ events. IsSomeAnd kept.old
         (λ before. events.items ≡ before.items ++ event.now ∷ [])) }
 {
     let Some(mut events) = kept.take() else {
         return;
     };
-    if push_copy(&mut events, event).is_ok() {
+    if events.push(*event).is_ok() {
         *kept = Some(events);
     }
-}
-
-// Appends a copy of an item.
-fn push_copy<T: Copy>(items: &mut Vec<T>, item: &T) -> Result<(), AllocError>
-    ensures { OnOk result (items.new.items ≡ items.old.items ++ item.now ∷ []) }
-{
-    items.reserve(1)?;
-    items.push_reserved(*item);
-    Ok(())
 }

@@ -1,4 +1,4 @@
-use Rattle.std.proofs.Common.{rules, ◌≡◌, List, map, sym, subst, ◌∙◌}
+use Rattle.std.proofs.Common.{rules, ◌≡◌, List, sym, subst, ◌∙◌}
 use Rattle.core_unit.specs.Parts.{UnitParts}
 use Rattle.core_machine.specs.Parts.{world}
 use Rattle.core_machine.specs.Works.{log_at}
