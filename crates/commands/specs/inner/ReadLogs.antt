@@ -1,17 +1,11 @@
 -- The logs of a set that was read.
-use Rattle.std.specs.Prelude.{◌≡◌, ◌==◌, ◌≤◌, All, ℕ, List, [], IsPermutation, filter, length, map, slice_get}
-use Rattle.std.specs.Global.{Vec}
-use Rattle.std.specs.Option.{option_map_or}
+use Rattle.std.specs.Prelude.{◌≡◌, ◌==◌, ◌≤◌, All, ℕ, List, IsPermutation, filter, length, map}
 use Rattle.log_record.specs.Entries.{entries}
 use Rattle.log_record.specs.declared.record.Entry.{Entry}
 use Rattle.log_record.specs.declared.record.Record.{Record}
 use Rattle.mem_op.specs.Limits.{operation_limit}
 use Rattle.verdict.specs.declared.basis.Basis.{Basis}
 use Rattle.verdict.specs.declared.basis.Basis.TheVariants.{Logs, Index}
-
--- log c; it has no records if there is no such log
-abbrev pub read_log_of : List (Vec Record) → ℕ → List Record
-read_log_of logs c = option_map_or (λ log. log.items) (slice_get logs c) []
 
 -- the records of a core, in the order in which they stand
 abbrev pub own_log : List Entry → ℕ → List Record

@@ -9,7 +9,7 @@ use Rattle.commands.specs.LogFiles.{Spelled}
 use Rattle.commands.proofs.Files.{keeps_told}
 use Rattle.commands.specs.Logs.{ArePut, ArePutUpTo, IsUnwritten, KeepsOthers}
 use Rattle.log_record.specs.declared.format.Format.TheVariants.{Two}
-use Rattle.commands.specs.inner.ReadLogs.{read_log_of}
+use Rattle.commands.specs.Upgrading.{log_in}
 use Rattle.commands.specs.inner.ReadTraces.{AreLogless}
 use Rattle.commands.proofs.Upgrades.{not_read, not_written, written}
 use Rattle.commands.specs.Refusals.{from_judge}
@@ -45,7 +45,7 @@ returns-in_err-write_logs-clause-exact g c =
     let range : IsInRange (vec_len c.args.asked.now.files) = search rules in
     let many : length c.as_slice-logs.result.now ≡ vec_len c.args.asked.now.files = search rules in
     let read = read_logs old.told _ _ _ _ c.as_slice.ensures.value (sym c.as_slice-logs.ensures.value) c.in_ok-read.ensures.ok in
-    let unwritten = subst (λ (f : Files). IsUnwritten (ArePutUpTo Two f new c.args.asked.now.out.now (length c.as_slice-logs.result.now) (read_log_of c.as_slice-logs.result.now)) c.in_err-write_logs.field-0.0)
+    let unwritten = subst (λ (f : Files). IsUnwritten (ArePutUpTo Two f new c.args.asked.now.out.now (length c.as_slice-logs.result.now) (log_in (record_lists c.as_slice-logs.result.now))) c.in_err-write_logs.field-0.0)
     c.in_ok-read.ensures.quiet c.in_err-write_logs.ensures.err in
     let is : c.from_residual-in_err-write_logs.result ≡ Err c.in_err-write_logs.field-0.0 = search rules in
     rw is (not_written old new (IsUnread g.F.Source.ByteSource.remaining g.F.Source.ByteSource.failed old new) c.args.asked.now c.as_slice-logs.result.now (length c.as_slice-logs.result.now) many range read
@@ -59,7 +59,7 @@ returns-clause-exact g c =
     let range : IsInRange (vec_len c.args.asked.now.files) = search rules in
     let many : length c.as_slice-logs.result.now ≡ vec_len c.args.asked.now.files = search rules in
     let read = read_logs old.told _ _ _ _ c.as_slice.ensures.value (sym c.as_slice-logs.ensures.value) c.in_ok-read.ensures.ok in
-    let put = subst (λ (f : Files). ArePut Two f new c.args.asked.now.out.now (length c.as_slice-logs.result.now) (read_log_of c.as_slice-logs.result.now)) c.in_ok-read.ensures.quiet c.in_ok-write_logs.ensures.logs in
+    let put = subst (λ (f : Files). ArePut Two f new c.args.asked.now.out.now (length c.as_slice-logs.result.now) (log_in (record_lists c.as_slice-logs.result.now))) c.in_ok-read.ensures.quiet c.in_ok-write_logs.ensures.logs in
     written old new (IsUnread g.F.Source.ByteSource.remaining g.F.Source.ByteSource.failed old new) c.args.asked.now c.as_slice-logs.result.now (length c.as_slice-logs.result.now) many range read
     c.in_ok-write_logs.field-0 c.in_ok-write_logs.ensures.ok put
 
