@@ -1,4 +1,4 @@
-/* measure RUNS FILE..: reads the logs of the files, of format 1, has them judged so many times as text and as operations, and
+/* measure RUNS FILE..: reads the logs of the files, which have no swaps, has them judged so many times as text and as operations, and
  * tells the least nanoseconds of the processor a record of each. */
 #include <stdio.h>
 #include <stdlib.h>

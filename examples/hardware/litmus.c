@@ -3,9 +3,9 @@
 //     litmus ROUNDS pinned|free SEED
 //
 // The script `litmus` writes the test as C into `test.h`: how many CORES, ADDRESSES and READS it has, the addresses of which
-// it wants the FINAL words, and a function for each core. Each round has words of its own, all 0 at its start. A line for each
-// round has the words that its loads and swaps read, core by core in program order, 0 for one that was skipped; then
-// the final words.
+// it wants the FINAL words, the initial word of each address, and a function for each core. Each round has words of its own.
+// A line for each round has the words that its loads, swaps and additions read, core by core in program order, 0 for one that
+// was skipped; then the final words.
 
 #define _GNU_SOURCE
 #include <pthread.h>
@@ -46,7 +46,17 @@ static inline uint64_t swap(Cell *cell, uint64_t word) {
   return old;
 }
 
+static inline uint64_t add(Cell *cell, uint64_t word) {
+  uint64_t old = atomic_fetch_add_explicit(&cell->word, word, memory_order_seq_cst);
+  keep_order();
+  return old;
+}
+
 static inline void fence(void) { atomic_thread_fence(memory_order_seq_cst); }
+
+// C has no fence of stores alone, nor of loads; these keep at least their order.
+static inline void store_fence(void) { atomic_thread_fence(memory_order_release); }
+static inline void load_fence(void) { atomic_thread_fence(memory_order_acquire); }
 
 static long rounds;
 static uint64_t seed;
@@ -121,6 +131,7 @@ int main(int count, char **words) {
   pinned = strcmp(words[2], "pinned") == 0;
   seed = strtoull(words[3], NULL, 10);
   cells = memory(sizeof(Cell) * (size_t)rounds * ADDRESSES);
+  for (long i = 0; i < rounds * ADDRESSES; i++) store(&cells[i], initial[i % ADDRESSES]);
   reads = memory(sizeof(uint64_t) * (size_t)rounds * (READS + 1));
   pthread_t threads[CORES];
   for (int core = 0; core < CORES; core++)

@@ -13,7 +13,9 @@ SHAPES = {
     "ai": "ai r{register} r{other} {word}",
     "jz": "jz r{register} {skip}",
     "sw": "sw r{register} {address} {word}",
+    "add": "#add r{register} {address} {word}",
 }
+FENCES = ("#fence", "#store-fence", "#load-fence")
 PATTERNS = {kind: shape.format(**{name: f"(?P<{name}>{NUMBER})" for name in RANGES}) for kind, shape in SHAPES.items()}
 
 
@@ -27,27 +29,30 @@ class Instruction(typing.NamedTuple):
 
 
 class Core(typing.NamedTuple):
-    """A core's instructions, and the places of those before which a fence stands."""
+    """A core's instructions, and its fences, each with the place of the instruction before which it stands."""
 
     program: list
-    fences: set
+    fences: list
 
     def reads(self):
-        """The places of its loads and swaps."""
-        return [at for at, it in enumerate(self.program) if it.kind in ("ld", "sw")]
+        """The places of what reads: loads, swaps and additions."""
+        return [at for at, it in enumerate(self.program) if it.kind in ("ld", "sw", "add")]
 
 
 class Test(typing.NamedTuple):
-    """The cores, the registers and the addresses whose words are an outcome, and the outcomes that are forbidden."""
+    """The words that addresses begin with, if not 0; the cores; the registers and the addresses whose words are an outcome; the registers of which
+    none is 0 in a round that counts; and the outcomes that are forbidden."""
 
+    initial: dict
     cores: list
     shown: list
     final: list
+    counted: list
     forbidden: list
 
     def addresses(self):
         used = {it.address for core in self.cores for it in core.program if it.kind not in ("ai", "jz")}
-        return sorted(used | set(self.final)) or [0]
+        return sorted(used | set(self.final) | set(self.initial)) or [0]
 
 
 def end(status, why):
@@ -73,8 +78,8 @@ def lines_of(path):
 class Reader:
     """The lines of a test, which are taken one by one."""
 
-    def __init__(self, path):
-        self.path, self.lines, self.at = path, lines_of(path) + [""], 0
+    def __init__(self, path, lines):
+        self.path, self.lines, self.at = path, lines + [""], 0
 
     def next(self):
         return self.lines[self.at]
@@ -112,10 +117,10 @@ def instruction(text, with_swaps):
 
 def read_core(lines, with_swaps):
     """The section of a core, after its first line."""
-    core, first = Core([], set()), lines.at
+    core, first = Core([], []), lines.at
     while not re.match("core |show |#final ", lines.next()):
-        if lines.next() == "#fence":
-            core.fences.add(len(core.program))
+        if lines.next() in FENCES:
+            core.fences.append((len(core.program), lines.next()))
         else:
             core.program.append(instruction(lines.next(), with_swaps) or lines.refuse("an instruction"))
         lines.at += 1
@@ -125,25 +130,30 @@ def read_core(lines, with_swaps):
     return core
 
 
-def read_test(path):
-    """The test in a file."""
-    lines = Reader(path)
+def read_test(path, text=None):
+    """The test in a file, or in these lines."""
+    lines = Reader(path, lines_of(path) if text is None else text)
     first = lines.take(f"tardis-litmus ([12]) [A-Za-z0-9+-]{{1,32}} cores ({NUMBER})", "the first line of a litmus test")
+    initial = {}
+    while words := lines.take_list("#initial", NUMBER, 2):
+        initial[words[0][0]] = words[1][0]
     cores = []
     for core in range(int(first[2])):
         lines.take(f"core {core}", f"core {core}")
         cores.append(read_core(lines, first[1] == "2"))
-    shown = lines.take_list("show", rf"(?:{'|'.join(map(str, range(len(cores))))})\.r(?:1[0-5]|[0-9])")
+    register = rf"(?:{'|'.join(map(str, range(len(cores))))})\.r(?:1[0-5]|[0-9])"
+    shown = lines.take_list("show", register)
     final = [it for (it,) in lines.take_list("#final", NUMBER)]
     if not shown + final:
         lines.refuse("a line of show or #final")
+    counted = lines.take_list("#counted", register)
     forbidden = []
     while outcome := lines.take_list("forbid", NUMBER, len(shown) + len(final)):
         forbidden.append(tuple(it for (it,) in outcome))
     lines.take("end", "forbid nor end")
     if lines.lines[lines.at :] != [""] or not 1 <= len(cores) <= 64 - bool(final):
         lines.refuse("the end of a test of at most 64 cores, or 63 with #final")
-    return Test(cores, shown, final, forbidden)
+    return Test(initial, cores, shown, final, counted, forbidden)
 
 
 def replay(program, read):
@@ -161,12 +171,13 @@ def replay(program, read):
             operations.append((it.address, None, it.word if it.kind == "st" else registers[it.register]))
         else:
             registers[it.register] = read[place]
-            operations.append((it.address, read[place], it.word if it.kind == "sw" else None))
+            stored = {"ld": None, "sw": it.word, "add": (read[place] + it.word) % 2**64}[it.kind]
+            operations.append((it.address, read[place], stored))
     return operations, registers
 
 
 class Round:
-    """What each core did in a round, the final words, and the outcome."""
+    """What each core did in a round, the final words, and the outcome, or None where the round doesn't count."""
 
     def __init__(self, test, words):
         self.operations, registers = [], []
@@ -177,16 +188,17 @@ class Round:
             registers.append(left)
             words = words[len(reads) :]
         self.final = words
-        self.outcome = tuple(registers[core][register] for core, register in test.shown) + words
+        counts = all(registers[core][register] for core, register in test.counted)
+        self.outcome = tuple(registers[core][register] for core, register in test.shown) + words if counts else None
 
 
-def line(core, addr, read, stored):
-    """An operation as a line of a trace."""
+def line(core, addr, read, stored, first=0):
+    """An operation as a line of a trace, where each word is told xor the first one at its address."""
     if stored is None:
-        return f"{core}: M[{addr}] == {read}\n"
+        return f"{core}: M[{addr}] == {read ^ first}\n"
     if read is None:
-        return f"{core}: M[{addr}] := {stored}\n"
-    return f"{core}: {{ M[{addr}] == {read}; M[{addr}] := {stored} }}\n"
+        return f"{core}: M[{addr}] := {stored ^ first}\n"
+    return f"{core}: {{ M[{addr}] == {read ^ first}; M[{addr}] := {stored ^ first} }}\n"
 
 
 def trace(test, rounds):
@@ -194,10 +206,18 @@ def trace(test, rounds):
     the observer, loads all flags and then the final words."""
     observer, width = len(test.cores), test.addresses()[-1] + 1
     flag, text = width * len(rounds), []
+
+    def told(core, place, addr, read, stored):
+        text.append(line(core, place * width + addr, read, stored, test.initial.get(addr, 0)))
+
     for core in range(observer):
-        text += [line(core, place * width + addr, read, stored) for place, it in enumerate(rounds) for addr, read, stored in it.operations[core]]
+        for place, it in enumerate(rounds):
+            for operation in it.operations[core]:
+                told(core, place, *operation)
         text += [line(core, flag + core, None, 1)] if test.final else []
     if test.final:
         text += [line(observer, flag + core, 1, None) for core in range(observer)]
-        text += [line(observer, place * width + addr, word, None) for place, it in enumerate(rounds) for addr, word in zip(test.final, it.final)]
+        for place, it in enumerate(rounds):
+            for addr, word in zip(test.final, it.final):
+                told(observer, place, addr, word, None)
     return "".join(text)

@@ -34,7 +34,7 @@ class=\"arrow fromread red\" marker-end=\"url(#red)\"
 class=\"arrow program red\" marker-end=\"url(#red)\"
 </svg>
 -reads-from
--write order
+-coherence order
 -cases",
 };
 

@@ -1,91 +1,106 @@
--- The check of files, by what the judge answers to their sources.
-use Rattle.std.proofs.Common.{◌≡◌, refl, ℕ, List, Option, None, Some, Result, Ok, Err, vec_len}
-use Rattle.std.specs.Prelude.{IsErrOf}
+-- What the verdict on files says, and why there is none.
+use Rattle.std.proofs.Common.{◌≡◌, ◌+◌, arith, refl, ℕ, List, [], ◌∷◌, length, Option, None, Some, Err}
 use Rattle.std.specs.Borrow.{Bor}
+use Rattle.std.proofs.lemmas.Slice.Zip.{AllZip-long}
 use Rattle.command_line.specs.declared.request.Check.{Check}
+use Rattle.command_line.specs.declared.request.Explain.{Explain}
+use Rattle.command_line.specs.declared.request.Request.TheVariants as request
+use Rattle.core_check.specs.FaultOrder.{core_fault_cmp}
+use Rattle.core_check.specs.declared.fault.RuleFault.{RuleFault}
 use Rattle.core_program.specs.declared.instruction.Instruction.{Instruction}
 use Rattle.host_files.specs.Files.{Files, IsUnread}
-use Rattle.commands.specs.LogFiles.{AreTextsOf, IsOpenFault, IsUnreadAt}
-use Rattle.commands.proofs.LogFiles.{as_counted, unopened_at}
-use Rattle.verdict.specs.Counts.{IsInRange, IsOutOfRange}
-use Rattle.verdict.specs.Judgement.{IsYes, OnYes, SpellConsistentSet, SpellFlatRunBy}
+use Rattle.line_stamps.specs.Least.{least_of}
+use Rattle.log_file.proofs.Sets.{spelled_short}
+use Rattle.log_file.specs.Sets.{SpellFrom, SpellSet}
+use Rattle.log_record.specs.declared.record.Record.{Record}
+use Rattle.verdict.specs.Bases.{IsBasisOf, IsExaminationOf}
+use Rattle.verdict.specs.CoreFaultsOf.{core_faults}
+use Rattle.verdict.specs.Counts.{IsBadCount, IsInRange}
+use Rattle.verdict.specs.Judgement.{SpellFlatRunBy, TellsFailures}
+use Rattle.verdict.specs.Statuses.{verdict_status}
 use Rattle.verdict.specs.declared.answer.Verdict.{Verdict}
-use Rattle.verdict.specs.declared.judge_fault.Count.TheVariants.{Files as FileCount, Workers, Programs as ProgramCount}
+use Rattle.verdict.specs.declared.answer.Verdict.TheVariants.{Yes, No}
+use Rattle.verdict.specs.declared.basis.Basis.{Basis}
+use Rattle.verdict.specs.declared.basis.Basis.TheVariants.{Logs, Index}
+use Rattle.verdict.specs.declared.basis.Examined.{Examined}
 use Rattle.verdict.specs.declared.judge_fault.JudgeFault.{JudgeFault}
 use Rattle.verdict.specs.declared.judge_fault.JudgeFault.TheVariants.{BadConfig, Log, Read, OutOfMemory}
-use Rattle.commands.specs.Checking.{Against, AreInRange, AreNotAsMany, FilesAreConsistent, FilesRunFlat, FilesRunFlatBy, IsAnswerAgainst, IsChecked, IsCheckedAgainst, IsUnprogrammedBy}
-use Rattle.std.specs.Option.{IsSomeAnd}
-use Rattle.commands.specs.declared.refusal.Refusal.TheVariants as refused
+use Rattle.commands.proofs.LogFiles.{unread_at}
+use Rattle.commands.specs.Checking.{FilesAreConsistent, FilesGet, FilesGetNo, FilesRunFlat, FilesRunFlatBy}
+use Rattle.commands.specs.LogFiles.{AreSourcesOf, AreTextsOf}
 use Rattle.commands.specs.Refusals.{from_judge}
+use Rattle.commands.specs.declared.place.Input.TheVariants as input
 use Rattle.commands.specs.declared.refusal.Refusal.{Refusal}
+use Rattle.commands.specs.declared.refusal.Refusal.TheVariants.{Judge, Unread}
+use Rattle.commands.specs.inner.Performing.{IsReadFault}
+use Rattle.commands.specs.inner.ReadLogs.{AreLogsOf, HoldsRecords}
 
--- a file can't be opened
-pub not_opened : {S : Type 0} (remaining : S → Option (List ℕ)) (failed : S → ℕ) (old new : Files) (programs : Option (List (List Instruction))) (asked : Check) (fault : JudgeFault) → AreInRange asked
-    → IsOpenFault old new asked.files.items fault → IsCheckedAgainst old.told (IsUnread remaining failed old new) programs asked (Err fault)
-not_opened remaining failed old new programs asked (BadConfig FileCount) range why = rw (as_counted asked.files) why.1
-not_opened remaining failed old new programs asked (Read file) range why = (range, unopened_at remaining failed old new asked.files.items file why.1)
-not_opened remaining failed old new programs asked OutOfMemory range why = tt
-not_opened remaining failed old new programs asked other range why = absurd why
+-- ---- what the verdict says
 
--- the judge's answer is that of the check
-pub checked : (told : List ℕ → Option (List ℕ)) (unread : List ℕ → Type 0) (programs : Option (List (List Instruction))) (asked : Check) (answer : Result Verdict JudgeFault) (texts : List (List ℕ))
-    → AreInRange asked → AreTextsOf told asked.files.items texts → IsAnswerAgainst programs texts answer → OnYes answer (SpellConsistentSet texts × SpellFlatRunBy programs texts)
-    → (IsErrOf answer (BadConfig FileCount) → IsOutOfRange (vec_len asked.files))
-    → (IsErrOf answer (BadConfig Workers) → IsInRange (vec_len asked.files) × IsOutOfRange asked.workers)
-    → (IsErrOf answer (BadConfig ProgramCount) → AreNotAsMany (vec_len asked.files) programs)
-    → ((file : ℕ) → answer ≡ Err (Read file) → IsUnreadAt unread asked.files.items file) → IsCheckedAgainst told unread programs asked answer
-checked told unread programs asked (Ok verdict) texts range tell answers says files workers counted reads = (range, (texts, tell, answers, says))
-checked told unread programs asked (Err (Log file line fault)) texts range tell answers says files workers counted reads = (range, (texts, tell, answers, says))
-checked told unread programs asked (Err (BadConfig FileCount)) texts range tell answers says files workers counted reads = files refl
-checked told unread programs asked (Err (BadConfig Workers)) texts range tell answers says files workers counted reads = workers refl
-checked told unread programs asked (Err (BadConfig ProgramCount)) texts range tell answers says files workers counted reads = (range, counted refl)
-checked told unread programs asked (Err (Read file)) texts range tell answers says files workers counted reads = (range, reads file refl)
-checked told unread programs asked (Err OutOfMemory) texts range tell answers says files workers counted reads = tt
-
--- ---- what a Yes says
-
--- the set is consistent
-pub consistent_files : (told : List ℕ → Option (List ℕ)) (unread : List ℕ → Type 0) (asked : Check) (verdict : Verdict) → IsChecked told unread asked (Ok verdict) → IsYes verdict
-    → FilesAreConsistent told asked
-consistent_files told unread asked verdict (programs, are, (range, (texts, tell, answers, says))) said = (texts, tell, (says said).0)
+-- after a Yes the set is consistent
+pub consistent_files : (told : List ℕ → Option (List ℕ)) (asked : Check) (verdict : Verdict) → FilesGet told asked verdict → verdict_status verdict ≡ 0 → FilesAreConsistent told asked
+consistent_files told asked (Yes count) (programs, are, (texts, tell, answers, says)) zero = (texts, tell, (says tt).0)
+consistent_files told asked (No fault) gets zero = cc
 
 -- and its operations are those of a run of the programs
-pub flat_files : (told : List ℕ → Option (List ℕ)) (unread : List ℕ → Type 0) (asked : Check) (verdict : Verdict) → IsChecked told unread asked (Ok verdict) → IsYes verdict
-    → FilesRunFlat told asked
-flat_files told unread asked verdict (programs, are, (range, (texts, tell, answers, says))) said = (programs, are, flat_by programs (says said).1)
+pub flat_files : (told : List ℕ → Option (List ℕ)) (asked : Check) (verdict : Verdict) → FilesGet told asked verdict → verdict_status verdict ≡ 0 → FilesRunFlat told asked
+flat_files told asked (No fault) gets zero = cc
+flat_files told asked (Yes count) (programs, are, (texts, tell, answers, says)) zero = (programs, are, flat_by programs (says tt).1)
   where
     flat_by : (given : Option (List (List Instruction))) → SpellFlatRunBy given texts → FilesRunFlatBy told asked given
     flat_by None runs = tt
     flat_by (Some given) runs = (texts, tell, runs)
 
--- ---- against the programs that were asked for
+pub files_no : (told : List ℕ → Option (List ℕ)) (asked : Check) (verdict : Verdict) → FilesGet told asked verdict → verdict_status verdict ≡ 1 → FilesGetNo told asked
+files_no told asked (Yes count) gets one = cc
+files_no told asked (No fault) gets one = (fault, gets)
 
-pub nowhere : {X : Type 0} (given : Option X) → IsSomeAnd given (λ x. ⊥) → ⊥
-nowhere None is = is
-nowhere (Some x) is = is
+-- ---- the logs on which it stands
 
--- there are no programs
-pub not_programmed : (told : List ℕ → Option (List ℕ)) (unread : List ℕ → Type 0) (asked : Check) (refusal : Refusal) → AreInRange asked
-    → IsUnprogrammedBy told unread asked.program refusal → IsChecked told unread asked (Err refusal)
-not_programmed told unread asked (refused.Programs reason) range why = (range, why)
-not_programmed told unread asked (refused.Unread place) range why = (range, why)
-not_programmed told unread asked refused.OutOfMemory range why = tt
-not_programmed told unread asked other range why = absurd (nowhere asked.program why)
+pub as_many : (core cores : ℕ) (texts : List (List ℕ)) (logs : List (List Record)) → SpellFrom core cores texts logs → length logs ≡ length texts
+as_many core cores [] [] spell = refl
+as_many core cores [] (log ∷ logs) spell = absurd spell
+as_many core cores (text ∷ texts) [] spell = absurd spell
+as_many core cores (text ∷ texts) (log ∷ logs) spell = let rest = as_many (core + 1) cores texts logs spell.1 in omega (arith, rest)
 
-abbrev pub lifted : Result Verdict JudgeFault → Result Verdict Refusal
-lifted (Ok verdict) = Ok verdict
-lifted (Err fault) = Err (from_judge fault)
+pub logs_examined : (told : List ℕ → Option (List ℕ)) (names : List (Bor (List ℕ))) (programs : Option (List (List Instruction))) (texts : List (List ℕ)) (logs : List (List Record)) (examined : Examined)
+    → IsInRange (length names) → AreTextsOf told names texts → SpellSet texts logs → IsExaminationOf programs logs examined → AreLogsOf logs examined.basis (length names)
+logs_examined told names programs texts logs examined range tell spell is = record {
+  many = (
+      let as_texts : length logs ≡ length texts = as_many 0 (length texts) texts logs spell in
+      let as_names : length texts ≡ length names = AllZip-long _ _ texts tell in
+      omega (arith, as_texts, as_names)
+      );
+  few = range.1;
+  short = spelled_short 0 (length texts) texts logs spell;
+  held = held_by (least_of core_fault_cmp (core_faults programs logs)) examined.basis is.basis;
+}
+  where
+    held_by : (o : Option RuleFault) (basis : Basis) → IsBasisOf o logs basis → HoldsRecords logs basis
+    held_by (Some fault) (Logs set) of = of
+    held_by (Some fault) (Index index) of = absurd of
+    held_by None (Logs set) of = absurd of
+    held_by None (Index index) of = of.0
 
--- what holds whatever the programs are
-whatever : (told : List ℕ → Option (List ℕ)) (name : Option (Bor (List ℕ))) (Holds : Type 0) → Against told name (λ programs. Holds) → Holds
-whatever told name Holds h = h.2
+-- ---- why there is none
 
-pub against : (told : List ℕ → Option (List ℕ)) (unread : List ℕ → Type 0) (asked : Check) (answer : Result Verdict JudgeFault)
-    → Against told asked.program (λ programs. IsCheckedAgainst told unread programs asked answer) → IsChecked told unread asked (lifted answer)
-against told unread asked (Ok verdict) h = h
-against told unread asked (Err (Log file line fault)) h = h
-against told unread asked (Err (Read file)) h = h
-against told unread asked (Err (BadConfig FileCount)) h = whatever told asked.program (IsOutOfRange (vec_len asked.files)) h
-against told unread asked (Err (BadConfig Workers)) h = whatever told asked.program (IsInRange (vec_len asked.files) × IsOutOfRange asked.workers) h
-against told unread asked (Err (BadConfig ProgramCount)) h = h
-against told unread asked (Err OutOfMemory) h = tt
+pub counted_fault : (unread : List ℕ → Type 0) (asked : Check) (fault : JudgeFault) → IsBadCount fault → IsReadFault unread (request.Check asked) (from_judge fault)
+counted_fault unread asked (BadConfig count) bad = record { unread = tt; of_file = tt }
+counted_fault unread asked other bad = absurd bad
+
+pub examined_fault : {S : Type 0} (remaining : S → Option (List ℕ)) (failed : S → ℕ) (old new : Files) (asked : Check) (sources later : List S) (fault : JudgeFault)
+    → AreSourcesOf old.told remaining sources asked.files.items → TellsFailures {T = Examined} failed sources later (Err fault)
+    → IsReadFault (IsUnread remaining failed old new) (request.Check asked) (from_judge fault)
+examined_fault remaining failed old new asked sources later (Read file) are fails =
+    record { unread = unread_at remaining failed old new sources later asked.files.items file are fails; of_file = tt }
+examined_fault remaining failed old new asked sources later (Log file line fault) are fails = record { unread = tt; of_file = tt }
+examined_fault remaining failed old new asked sources later (BadConfig count) are fails = record { unread = tt; of_file = tt }
+examined_fault remaining failed old new asked sources later OutOfMemory are fails = record { unread = tt; of_file = tt }
+
+-- an explanation reads the files of its check
+pub explained_fault : (unread : List ℕ → Type 0) (asked : Explain) (refusal : Refusal) → IsReadFault unread (request.Check asked.check) refusal
+    → IsReadFault unread (request.Explain asked) refusal
+explained_fault unread asked (Judge (Read file)) why = record { unread = why.unread; of_file = tt }
+explained_fault unread asked (Unread input.Programs) why = record { unread = why.unread; of_file = tt }
+explained_fault unread asked (Unread place) why = absurd why.unread
+explained_fault unread asked other why = record { unread = tt; of_file = why.of_file }

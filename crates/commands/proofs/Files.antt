@@ -27,3 +27,7 @@ only_read_after old now new is read = subst (λ (files : Files). IsOnlyRead file
 -- whatever may be put
 pub keeps_files : (old new : Files) (IsPut : List ℕ → Type 0) → IsOnlyRead old new → KeepsFiles old.told new.told IsPut
 keeps_files old new IsPut read name none = ap (λ (told : List ℕ → Option (List ℕ)). told name) (keeps_told old new read)
+
+-- and those that are put after it was only read
+pub keeps_after : (old now new : Files) (IsPut : List ℕ → Type 0) → IsOnlyRead old now → KeepsFiles now.told new.told IsPut → KeepsFiles old.told new.told IsPut
+keeps_after old now new IsPut read keeps = subst (λ (told : List ℕ → Option (List ℕ)). KeepsFiles told new.told IsPut) (keeps_told old now read) keeps

@@ -1,9 +1,8 @@
 -- The judge says Yes to the logs that a run leaves.
-use Rattle.std.proofs.Common.{◌≡◌, ◌<◌, ◌≤◌, ℕ, zero, suc, ◌+◌, List, [], ◌∷◌, ◌++◌, length, map, inl, inr, refl, sym, ap, subst, ◌∙◌, arith, eq-eqb, Bor}
-use Rattle.std.specs.Prelude.{Contains, Option, None, Some, Ok, Err, if◌then◌else◌, nat_eq, slice_get}
+use Rattle.std.proofs.Common.{◌≡◌, ◌≤◌, ℕ, zero, suc, ◌+◌, List, [], ◌∷◌, ◌++◌, length, map, inl, inr, refl, sym, ap, subst, ◌∙◌, arith, eq-eqb}
+use Rattle.std.specs.Prelude.{Option, None, Some, if◌then◌else◌, nat_eq, slice_get}
 use Rattle.std.specs.Option.{option_map, option_map_or}
 use Rattle.std.proofs.lemmas.List.{length-append}
-use Rattle.std.proofs.lemmas.List.Elements.{Contains-append_right}
 use Rattle.std.proofs.lemmas.Option.{slice_get-map}
 use Rattle.lease_rule.specs.ConfigParts.{ConfigParts}
 use Rattle.log_record.specs.declared.record.Record.{Record}
@@ -19,7 +18,7 @@ use Rattle.core_unit.specs.Core.{Core}
 use Rattle.core_unit.specs.Parts.{UnitParts, core_of}
 use Rattle.core_machine.specs.Machine.{World, Run}
 use Rattle.core_machine.specs.Opening.{opening_parts}
-use Rattle.core_machine.specs.Parts.{world}
+use Rattle.core_machine.specs.Parts.{CoreParts, world}
 use Rattle.core_machine.specs.Works.{log_at, logs_below}
 use Rattle.core_machine.proofs.Opened.{found_in_push, opening_world}
 use Rattle.audit.specs.Events.{world_of}
@@ -27,24 +26,19 @@ use Rattle.audit.specs.Runs.{IsRun, kept_log}
 use Rattle.machine_laws.specs.Laws.{GetYesBy}
 use Rattle.machine_laws.proofs.Below.{ended_below_get_yes, whole_below_get_yes}
 use Rattle.simulation.specs.Events.{simulated_events}
+use Rattle.simulation.specs.Simulating.{IsSimulated}
+use Rattle.simulation.specs.declared.command.Command.{Command}
 use Rattle.simulation.proofs.Ended.{simulated_ended}
 use Rattle.simulation.proofs.SimulatedRuns.{simulated_run}
-use Rattle.command_line.specs.Files.{IsApart, files_put, files_read, names_given}
 use Rattle.command_line.specs.RunFiles.{IsLogName}
-use Rattle.command_line.specs.declared.request.Request.TheVariants as request
 use Rattle.command_line.specs.declared.request.Run.{Run as AskedRun}
 use Rattle.command_line.specs.declared.request.Sim.{Sim as AskedSim}
 use Rattle.litmus.proofs.JudgedOutcome.{spell_push}
-use Rattle.host_files.specs.Files.{Files}
-use Rattle.commands.specs.Outputs.{PutsAt}
+use Rattle.host_files.specs.Files.{KeepsFiles}
 use Rattle.commands.specs.Leaving.{AreLogTexts, LeavesYes}
 use Rattle.commands.specs.Logs.{TellsFirst, log_name}
 use Rattle.commands.specs.Programs.{AreProgramsIn}
 use Rattle.commands.specs.Programmed.{config_of, log_format}
-use Rattle.commands.specs.Running.{IsThreadRun}
-use Rattle.commands.specs.Simulating as simulating
-use Rattle.commands.specs.declared.refusal.Refusal.TheVariants.{Simulation}
-use Rattle.commands.proofs.Unread.{front, later}
 
 -- ---- texts
 
@@ -83,51 +77,31 @@ leaves told told' name out set w read first gets_yes =
     let spell = subst (λ n. SpellFrom 0 n below.texts (logs_below w (length set.programs))) (sym below.count) below.spell in
     (set, read, below.texts, below.count, below.told_each, length (entries (logs_below w (length set.programs))), (logs_below w (length set.programs), spell, sym gets_yes))
 
--- the numbers of a run leave the logs as they are told, as they go to none of them
-spared : (format : Format) (mid new : Files) (out : List ℕ) (cores : ℕ) (made : ℕ → List Record) (n : ℕ) (statistics : Option (Bor (List ℕ))) (text : List ℕ)
-    → n ≤ 64 → ((name : List ℕ) → IsLogName out name → ¬ (Contains (names_given (statistics ∷ [])) name)) → PutsAt mid new statistics text
-    → TellsFirst format mid.told out cores made n → TellsFirst format new.told out cores made n
-spared format mid new out cores made n None text few apart same first =
-    subst (λ (files : Files). TellsFirst format files.told out cores made n) (sym same) first
-spared format mid new out cores made n (Some name) text few apart put first = λ c below.
-    let (log, tells, spells) = first c below in
-    let core : c < 64 = omega arith in
-    let keeps = put.others (log_name out c) (λ same. apart name.now (c, core, sym same) (0, omega arith, refl)) in
-    (log, subst (λ (t : Option (List ℕ)). Tells t log) (sym keeps) tells, spells)
+-- what is put after the logs leaves them as they are told, as it goes to none of them
+pub spared : (format : Format) (told told' : List ℕ → Option (List ℕ)) (out : List ℕ) (cores : ℕ) (made : ℕ → List Record) (IsPut : List ℕ → Type 0) → cores ≤ 64
+    → ((name : List ℕ) → IsLogName out name → ¬ (IsPut name)) → KeepsFiles told told' IsPut → TellsFirst format told out cores made cores
+    → TellsFirst format told' out cores made cores
+spared format told told' out cores made IsPut few apart keeps first c below =
+    let (text, tells, spells) = first c below in
+    let same = keeps (log_name out c) (apart (log_name out c) (c, omega arith, refl)) in
+    (text, subst (λ (t : Option (List ℕ)). Tells t text) (sym same) tells, spells)
 
 -- ---- a simulation
 
-at_most_64 : (told : List ℕ → Option (List ℕ)) (name : List ℕ) (set : SetParts) → AreProgramsIn told name set → length set.programs ≤ 64
+pub at_most_64 : (told : List ℕ → Option (List ℕ)) (name : List ℕ) (set : SetParts) → AreProgramsIn told name set → length set.programs ≤ 64
 at_most_64 told name set (text, tells, spells) = spells.0.few
 
--- the file of events has some text
-puts_text : (old new : Files) (events : Option (Bor (List ℕ))) → simulating.PutsEvents old new events → (text : List ℕ) × PutsAt old new events text
-puts_text old new None is = ([], is)
-puts_text old new (Some name) (text, such, puts) = (text, puts)
-
-ended_leaves : (old mid new : Files) (unread : List ℕ → Type 0) (asked : AskedSim) (count : ℕ) → simulating.IsRun old mid unread asked (Ok count)
-    → simulating.PutsEvents mid new asked.events → IsApart (request.Sim asked) → LeavesYes old.told new.told asked.programs.now asked.out.now
-ended_leaves old mid new unread asked count (sound, set, read, (commands, parsed, (q, did, (counted, (between, put, numbers))))) events apart =
+pub sim_leaves : (told told' : List ℕ → Option (List ℕ)) (asked : AskedSim) (set : SetParts) (commands : List Command) (q : CoreParts) → AreProgramsIn told asked.programs.now set
+    → IsSimulated commands asked.seed asked.stress (opening_parts set.programs (config_of asked.limits)) q
+    → TellsFirst (log_format set.format) told' asked.out.now (length set.programs) (log_at (world q)) (length set.programs) → LeavesYes told told' asked.programs.now asked.out.now
+sim_leaves told told' asked set commands q read did first =
     let g = config_of asked.limits in
     let start = opening_parts set.programs g in
     let run = simulated_run commands asked.seed asked.stress start q did in
     let led = subst (λ (w : World). Run g w (simulated_events commands asked.seed asked.stress start q did) (world q)) (opening_world set.programs g) run.run in
-    let cores = length set.programs in
-    let few = at_most_64 old.told asked.programs.now set read in
-    let (text, after) = puts_text mid new asked.events events in
-    let in_put = Contains-append_right (files_read (request.Sim asked)) (files_put (request.Sim asked)) in
-    let first = spared (log_format set.format) between mid asked.out.now cores (log_at (world q)) cores asked.statistics _ few
-    (λ name log has. apart.logs name log (in_put name (front asked.statistics (asked.events ∷ []) name has))) numbers put.0.logs in
-    let all = spared (log_format set.format) mid new asked.out.now cores (log_at (world q)) cores asked.events text few
-    (λ name log has. apart.logs name log (in_put name (later asked.statistics (asked.events ∷ []) name has))) after first in
-    leaves old.told new.told asked.programs.now asked.out.now set (world q) read all
-    (ended_below_get_yes set.programs g (world q) few (simulated_events commands asked.seed asked.stress start q did, led) (simulated_ended commands asked.seed asked.stress start q did))
-
-pub sim_leaves : (old new : Files) (unread : List ℕ → Type 0) (asked : AskedSim) (count : ℕ) → simulating.IsTracedRun old new unread asked (Ok count)
-    → IsApart (request.Sim asked) → LeavesYes old.told new.told asked.programs.now asked.out.now
-sim_leaves old new unread asked count (mid, Ok n, is, traced) apart = ended_leaves old mid new unread asked n is traced.1 apart
-sim_leaves old new unread asked count (mid, Err (Simulation fault), is, traced) apart = let other : Ok count ≡ Err (Simulation fault) = traced.0 in absurd cc
-sim_leaves old new unread asked count (mid, Err fault, is, traced) apart = let other : Ok count ≡ Err fault = traced.0 in absurd cc
+    leaves told told' asked.programs.now asked.out.now set (world q) read first
+    (ended_below_get_yes set.programs g (world q) (at_most_64 told asked.programs.now set read) (simulated_events commands asked.seed asked.stress start q did, led)
+    (simulated_ended commands asked.seed asked.stress start q did))
 
 -- ---- a run in threads
 
@@ -140,14 +114,11 @@ kept_is programs g us ss run c = rw (slice_get-map (λ (u : UnitParts). core_of 
     go None at = refl
     go (Some u) at = ap (λ b. if b then u.log else []) (eq-eqb u.core c (run.units c u at).core)
 
-pub run_leaves : (old new : Files) (unread : List ℕ → Type 0) (asked : AskedRun) (count : ℕ) → IsThreadRun old new unread asked (Ok count)
-    → IsApart (request.Run asked) → LeavesYes old.told new.told asked.programs.now asked.out.now
-run_leaves old new unread asked count (sound, set, read, (us, ss, run, events, (counted, (mid, put, later)))) apart =
+pub run_leaves : (told told' : List ℕ → Option (List ℕ)) (asked : AskedRun) (set : SetParts) (us : List UnitParts) (ss : List SliceParts) → AreProgramsIn told asked.programs.now set
+    → IsRun set.programs (config_of asked.limits) us ss → TellsFirst (log_format set.format) told' asked.out.now (length set.programs) (kept_log us) (length set.programs)
+    → LeavesYes told told' asked.programs.now asked.out.now
+run_leaves told told' asked set us ss read run first =
     let g = config_of asked.limits in
-    let w : World = world_of (map (λ u. core_of u None) us) ss in
-    let first = spared (log_format set.format) mid new asked.out.now (length set.programs) (kept_log us) (length set.programs) asked.statistics _
-    (at_most_64 old.told asked.programs.now set read)
-    (λ name log has. apart.logs name log (Contains-append_right (files_read (request.Run asked)) (names_given (asked.statistics ∷ [])) name has)) later put.0.logs in
-    leaves old.told new.told asked.programs.now asked.out.now set w read
-    (λ c below. subst (λ (log : List Record). (text : List ℕ) × Tells (new.told (log_name asked.out.now c)) text × SpellsIn (log_format set.format) c (length set.programs) text log) (kept_is set.programs g us ss run c) (first c below))
+    leaves told told' asked.programs.now asked.out.now set (world_of (map (λ u. core_of u None) us) ss) read
+    (λ c below. subst (λ (log : List Record). (text : List ℕ) × Tells (told' (log_name asked.out.now c)) text × SpellsIn (log_format set.format) c (length set.programs) text log) (kept_is set.programs g us ss run c) (first c below))
     (whole_below_get_yes set.programs g us ss run)

@@ -1,5 +1,4 @@
 mod Checks
-mod Confirms
 mod Explained
 mod Files
 mod Leaving
@@ -15,12 +14,9 @@ mod OwnLogs
 mod OwnTraces
 mod Performed
 mod Puts
-mod Readings
-mod Refused
 mod Replays
 mod Runs
 mod Searches
-mod SetCounts
 mod SourceNumbers
 mod Tables
 mod ThreadRuns

@@ -1,5 +1,5 @@
 -- Files that are opened, what their sources tell, and why they tell no logs.
-use Rattle.std.proofs.Common.{◌≡◌, ◌+◌, ◌<◌, ℕ, zero, suc, List, [], ◌∷◌, ◌++◌, Option, None, Some, Err, add-one, arith, inl, inr, length, refl, slice_index_or, subst, take, vec_len}
+use Rattle.std.proofs.Common.{◌≡◌, ◌+◌, ◌<◌, ℕ, zero, suc, List, [], ◌∷◌, ◌++◌, Option, None, Some, Err, add-one, arith, inl, inr, length, refl, slice_index_or, subst, sym, take, vec_len}
 use Rattle.std.specs.Prelude.{◌↔◌, IfSome, IsErrOf, IsOk, IsTrue, slice_get}
 use Rattle.std.specs.Borrow.{Bor}
 use Rattle.std.specs.Global.{Vec}
@@ -7,7 +7,7 @@ use Rattle.std.specs.List.{AllZip}
 use Rattle.std.proofs.Math.Seq.{take-suc}
 use Rattle.std.proofs.lemmas.List.{get_or_default}
 use Rattle.log_file.specs.Devices.{Tells}
-use Rattle.log_file.specs.Sets.{IsSetFault, ReaderFailed, TellEach}
+use Rattle.log_file.specs.Sets.{ReaderFailed, TellEach}
 use Rattle.log_file.specs.declared.fault.LogFault.{LogFault}
 use Rattle.log_file.specs.declared.fault.LogFault.TheVariants.{At, OutOfMemory as NoLogMemory, Read as ReadFailed}
 use Rattle.verdict.specs.Counts.{IsBadCount, IsInRange, IsOutOfRange}
@@ -15,10 +15,11 @@ use Rattle.verdict.specs.SetFaults.{from_set}
 use Rattle.verdict.specs.declared.judge_fault.Count.TheVariants.{Files as FileCount, Workers, Programs as ProgramCount}
 use Rattle.verdict.specs.declared.judge_fault.JudgeFault.{JudgeFault}
 use Rattle.verdict.specs.declared.judge_fault.JudgeFault.TheVariants.{BadConfig, Read, OutOfMemory}
-use Rattle.host_files.specs.Files.{Files, IsFirstRefused, IsOnlyRead, IsUnread, refusing}
-use Rattle.commands.specs.LogFiles.{AreSourcesOf, AreTextsOf, IsLeft, IsOpenFault, IsUnreadAt}
+use Rattle.host_files.specs.Files.{Files, IsFirstRefused, IsUnread, refusing}
+use Rattle.commands.specs.LogFiles.{AreSourcesOf, AreTextsOf, IsOpenFault, IsUnreadAt}
 use Rattle.commands.specs.Refusals.{from_judge}
-use Rattle.commands.specs.inner.ReadTraces.{AreLogless}
+use Rattle.commands.specs.declared.refusal.Refusal.TheVariants.{Judge}
+use Rattle.commands.specs.inner.ReadLogs.{AreLogless}
 use Rattle.commands.proofs.Files.{first_refused}
 
 -- the next file's source, after those of the files before it
@@ -90,39 +91,23 @@ unopened_at remaining failed old new names file (there, refused) = (there, λ d.
 
 -- ---- no logs are read
 
+logless_at : (unread : List ℕ → Type 0) (names : List (Bor (List ℕ))) (file : ℕ) → IsUnreadAt unread names file → AreLogless unread names (Judge (Read file))
+logless_at unread names file is = λ request reads. record { unread = subst (λ (given : List (Bor (List ℕ))). IsUnreadAt unread given file) (sym reads) is; of_file = tt }
+
 pub unopened_files : {S : Type 0} (remaining : S → Option (List ℕ)) (failed : S → ℕ) (old new : Files) (names : List (Bor (List ℕ))) (fault : JudgeFault) → IsOpenFault old new names fault
-    → AreLogless old.told (IsUnread remaining failed old new) names (from_judge fault)
-unopened_files remaining failed old new names (BadConfig FileCount) why = why.1
-unopened_files remaining failed old new names (Read file) why = (why.0, unopened_at remaining failed old new names file why.1)
-unopened_files remaining failed old new names OutOfMemory why = tt
+    → AreLogless (IsUnread remaining failed old new) names (from_judge fault)
+unopened_files remaining failed old new names (BadConfig FileCount) why = λ request reads. record { unread = tt; of_file = tt }
+unopened_files remaining failed old new names (Read file) why =
+    logless_at (IsUnread remaining failed old new) names file (unopened_at remaining failed old new names file why.1)
+unopened_files remaining failed old new names OutOfMemory why = λ request reads. record { unread = tt; of_file = tt }
 unopened_files remaining failed old new names other why = absurd why
 
--- and the folder is left as that fault says
-pub unopened_left : (old new : Files) (names : List (Bor (List ℕ))) (fault : JudgeFault) → IsOpenFault old new names fault → IsOnlyRead old new → IsLeft old new fault
-unopened_left old new names (BadConfig FileCount) why read = why.0
-unopened_left old new names (Read file) why read = read
-unopened_left old new names OutOfMemory why read = read
-unopened_left old new names other why read = absurd why
-
--- a folder that is as it was is left so, whatever the fault
-pub same_left : (old new : Files) (fault : JudgeFault) → new ≡ old → IsLeft old new fault
-same_left old new (Read file) same = inl same
-same_left old new OutOfMemory same = inl same
-same_left old new other same = same
-
--- however it is left, it was only read
-pub left_read : (old new : Files) (fault : JudgeFault) → IsLeft old new fault → IsOnlyRead old new
-left_read old new (Read file) left = left
-left_read old new OutOfMemory left = left
-left_read old new other left = inl left
-
 -- the set has a fault
-pub faulty : (told : List ℕ → Option (List ℕ)) (unread : List ℕ → Type 0) (names : List (Bor (List ℕ))) (texts : List (List ℕ)) (file : ℕ) (fault : LogFault) → IsInRange (length names)
-    → AreTextsOf told names texts → IsSetFault texts file fault → (fault ≡ ReadFailed → IsUnreadAt unread names file)
-    → AreLogless told unread names (from_judge (from_set file fault))
-faulty told unread names texts file (At line fault) range tell is reads = (range, texts, tell, is)
-faulty told unread names texts file NoLogMemory range tell is reads = tt
-faulty told unread names texts file ReadFailed range tell is reads = (range, reads refl)
+pub faulty : (unread : List ℕ → Type 0) (names : List (Bor (List ℕ))) (file : ℕ) (fault : LogFault) → (fault ≡ ReadFailed → IsUnreadAt unread names file)
+    → AreLogless unread names (from_judge (from_set file fault))
+faulty unread names file (At line fault) reads = λ request given. record { unread = tt; of_file = tt }
+faulty unread names file NoLogMemory reads = λ request given. record { unread = tt; of_file = tt }
+faulty unread names file ReadFailed reads = logless_at unread names file (reads refl)
 
 -- ---- how many files there are
 

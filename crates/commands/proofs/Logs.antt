@@ -1,6 +1,6 @@
 -- The logs that the folder tells, one by one.
 use Rattle.std.proofs.Common.{◌≡◌, ◌≢◌, ℕ, ◌+◌, ◌<◌, ◌≤◌, List, ◌++◌, inl, inr, sym, subst, ap, ◌∙◌, arith}
-use Rattle.std.specs.Prelude.{Option, codes}
+use Rattle.std.specs.Prelude.{◌⊎◌, Option, codes}
 use Rattle.std.specs.Fmt.{decimal}
 use Rattle.std.proofs.lemmas.Fmt.{decimal_injective}
 use Rattle.std.proofs.lemmas.List.{append_cancel_left}
@@ -9,11 +9,9 @@ use Rattle.log_file.specs.Devices.{Failed, Tells}
 use Rattle.log_file.specs.Log.{SpellsIn}
 use Rattle.log_record.specs.declared.format.Format.{Format}
 use Rattle.log_record.specs.declared.record.Record.{Record}
-use Rattle.host_files.specs.Files.{Files}
-use Rattle.commands.specs.inner.Putting.{IsUnput}
-use Rattle.commands.specs.Logs.{ArePutAsFar, ArePutBefore, ArePutFirst, ArePutUpTo, IsUnwritten, KeepsOthers, log_name, TellsLog, TellsFirst}
-use Rattle.commands.specs.declared.refusal.Refusal.{Refusal}
-use Rattle.commands.specs.declared.refusal.Refusal.TheVariants.{LogUnwritten, OutOfMemory}
+use Rattle.host_files.specs.Files.{Files, KeepsFiles}
+use Rattle.command_line.specs.RunFiles.{IsLogName}
+use Rattle.commands.specs.Logs.{ArePutAsFar, ArePutBefore, ArePutFirst, ArePutUpTo, KeepsOthers, log_name, TellsLog, TellsFirst}
 
 -- no two cores' logs are of one name
 names_differ : (out : List ℕ) (c d : ℕ) → c < d → d < 64 → log_name out c ≢ log_name out d
@@ -61,18 +59,13 @@ module _ (format : Format) (old now new : Files) (out : List ℕ) (cores : ℕ) 
     quiet = ap (λ (files : Files). files.failed) same ∙ quiet;
   }
 
-  pub put_as_far : (fault : Refusal) → IsUnput now new core fault → ArePutAsFar format old new out cores made
-  put_as_far (LogUnwritten file) unput = inr (inl (n, put_up_to unput.1))
-  put_as_far OutOfMemory same = inr (inr (n, put_before same))
-  put_as_far other unput = absurd unput
-
-  pub unwritten : (fault : Refusal) → IsUnput now new core fault → IsUnwritten (ArePutUpTo format old new out cores made) fault
-  unwritten (LogUnwritten file) unput = subst (ArePutUpTo format old new out cores made) (sym (unput.0 ∙ is)) (put_up_to unput.1)
-  unwritten OutOfMemory same = tt
-  unwritten other unput = absurd unput
+  pub put_as_far : Failed now.failed new.failed ⊎ (new ≡ now) → ArePutAsFar format old new out cores made
+  put_as_far (inl failed) = inr (inl (n, put_up_to failed))
+  put_as_far (inr same) = inr (inr (n, put_before same))
 
 -- the logs are 64 at most
-pub keeps_files : (format : Format) (old new : Files) (out : List ℕ) (cores : ℕ) (made : ℕ → List Record) → cores ≤ 64 → ArePutAsFar format old new out cores made → KeepsOthers old.told new.told out 64
-keeps_files format old new out cores made few (inl put) name none = put.0.others name (λ c below. none c (omega arith))
-keeps_files format old new out cores made few (inr (inl (n, put))) name none = let core : n < cores = put.core in put.others name (λ c below. none c (omega arith))
-keeps_files format old new out cores made few (inr (inr (n, put))) name none = let core : n < cores = put.core in put.put.others name (λ c below. none c (omega arith))
+pub keeps_files : (format : Format) (old new : Files) (out : List ℕ) (cores : ℕ) (made : ℕ → List Record) → cores ≤ 64 → ArePutAsFar format old new out cores made
+    → KeepsFiles old.told new.told (IsLogName out)
+keeps_files format old new out cores made few (inl put) name none = put.0.others name (λ c below same. none (c, omega arith, same))
+keeps_files format old new out cores made few (inr (inl (n, put))) name none = let core : n < cores = put.core in put.others name (λ c below same. none (c, omega arith, same))
+keeps_files format old new out cores made few (inr (inr (n, put))) name none = let core : n < cores = put.core in put.put.others name (λ c below same. none (c, omega arith, same))

@@ -1,41 +1,45 @@
 -- How what was left first and then goes together.
-use Rattle.std.proofs.Common.{ℕ, List, sym, subst, ◌∙◌, inl, inr, Bor}
-use Rattle.std.specs.Prelude.{◌⊎◌, Option}
+use Rattle.std.proofs.Common.{◌≡◌, ℕ, List, sym, subst, ◌∙◌, inl, inr, Bor}
+use Rattle.std.specs.Prelude.{◌⊎◌, Option, Some, Result, Ok, Err, IfErr, OnOk}
 use Rattle.log_record.specs.declared.format.Format.{Format}
 use Rattle.log_record.specs.declared.record.Record.{Record}
 use Rattle.host_files.specs.Files.{Files, KeepsFiles}
-use Rattle.commands.specs.Logs.{ArePut, ArePutUpTo, IsUnwritten, KeepsOthers}
-use Rattle.commands.specs.Outputs.{IsNameOf}
-use Rattle.commands.specs.Numbers.{AreLeftAsFar, IsLeftName, IsUnleft, IsUnput}
+use Rattle.commands.specs.Logs.{ArePut}
+use Rattle.commands.specs.Outputs.{FailsPutAt, PutsAt}
+use Rattle.commands.specs.Numbers.{AreLeftAsFar}
+use Rattle.commands.specs.Simulating.{TriesEvents}
+use Rattle.commands.specs.declared.place.Output.{Output}
 use Rattle.commands.specs.declared.refusal.Refusal.{Refusal}
-use Rattle.commands.specs.declared.refusal.Refusal.TheVariants.{LogUnwritten, OutOfMemory}
+use Rattle.commands.specs.declared.refusal.Refusal.TheVariants.{Unwritten}
+use Rattle.commands.specs.inner.Performing.{IsUnprinted}
 
 -- what is put first and then is put in all
-pub keeps_both : (told mid new : List ℕ → Option (List ℕ)) (out : List ℕ) (statistics : Option (Bor (List ℕ))) → KeepsOthers told mid out 64
-    → KeepsFiles mid new (IsNameOf statistics) → KeepsFiles told new (IsLeftName out statistics)
-keeps_both told mid new out statistics first later name none = later name (λ is. none (inr is)) ∙ first name (λ c below same. none (inl (c, below, same)))
-
 pub keeps_then : (told mid new : List ℕ → Option (List ℕ)) (First Later : List ℕ → Type 0) → KeepsFiles told mid First → KeepsFiles mid new Later
     → KeepsFiles told new (λ name. First name ⊎ Later name)
 keeps_then told mid new First Later first later name none = later name (λ is. none (inr is)) ∙ first name (λ is. none (inl is))
 
-pub keeps_first : (told new : List ℕ → Option (List ℕ)) (out : List ℕ) (statistics : Option (Bor (List ℕ))) → KeepsOthers told new out 64 → KeepsFiles told new (IsLeftName out statistics)
-keeps_first told new out statistics first name none = first name (λ c below same. none (inl (c, below, same)))
+pub keeps_first : (told new : List ℕ → Option (List ℕ)) (First Later : List ℕ → Type 0) → KeepsFiles told new First → KeepsFiles told new (λ name. First name ⊎ Later name)
+keeps_first told new First Later first name none = first name (λ is. none (inl is))
 
--- the logs weren't put
-pub unleft_first : (format : Format) (old new : Files) (out : List ℕ) (cores : ℕ) (made : ℕ → List Record) (statistics : Option (Bor (List ℕ))) (fault : Refusal)
-    → IsUnwritten (ArePutUpTo format old new out cores made) fault → IsUnleft format old new out cores made statistics fault
-unleft_first format old new out cores made statistics (LogUnwritten file) why = why
-unleft_first format old new out cores made statistics OutOfMemory why = tt
-unleft_first format old new out cores made statistics other why = absurd why
+-- the logs were put, and then the numbers as far as they could be
+pub far_after : (format : Format) (old mid new : Files) (out : List ℕ) (cores : ℕ) (made : ℕ → List Record) (statistics : Option (Bor (List ℕ))) (text : List ℕ)
+    → ArePut format old mid out cores made → PutsAt mid new statistics text ⊎ FailsPutAt mid new statistics ⊎ (new ≡ mid) → AreLeftAsFar format old new out cores made statistics text
+far_after format old mid new out cores made statistics text put (inl puts) = inr (mid, put, inl puts)
+far_after format old mid new out cores made statistics text put (inr (inl fails)) = inr (mid, put, inr fails)
+far_after format old mid new out cores made statistics text put (inr (inr same)) = inl (inl (subst (λ (files : Files). ArePut format old files out cores made) (sym same) put))
 
-module _ (format : Format) (old mid new : Files) (out : List ℕ) (cores : ℕ) (made : ℕ → List Record) (statistics : Option (Bor (List ℕ))) (text : List ℕ)
-    (put : ArePut format old mid out cores made) where
-  -- the numbers weren't put
-  pub unleft_after : (fault : Refusal) → IsUnput mid new statistics fault → IsUnleft format old new out cores made statistics fault
-  unleft_after fault (inl (is, fails)) = subst (IsUnleft format old new out cores made statistics) (sym is) (mid, put, fails)
-  unleft_after fault (inr (is, same)) = subst (IsUnleft format old new out cores made statistics) (sym is) tt
+-- ---- a file that was to be put
 
-  pub far_after : (fault : Refusal) → IsUnput mid new statistics fault → AreLeftAsFar format old new out cores made statistics text
-  far_after fault (inl (is, fails)) = inr (mid, put, inr fails)
-  far_after fault (inr (is, same)) = inl (inl (subst (λ (files : Files). ArePut format old files out cores made) (sym same) put))
+pub put_tried : {T : Type 0} (old new : Files) (name : Option (Bor (List ℕ))) (bytes : List ℕ) (Is : Refusal → Type 0) (result : Result T Refusal) → OnOk result (PutsAt old new name bytes)
+    → IfErr result (λ refusal. Is refusal × FailsPutAt old new name) → PutsAt old new name bytes ⊎ FailsPutAt old new name ⊎ (new ≡ old)
+put_tried old new name bytes Is (Ok x) puts why = inl puts
+put_tried old new name bytes Is (Err refusal) puts why = inr (inl why.1)
+
+pub events_tried : {T : Type 0} (old new : Files) (name : Bor (List ℕ)) (bytes : List ℕ) (Is : Refusal → Type 0) (result : Result T Refusal) → OnOk result (PutsAt old new (Some name) bytes)
+    → IfErr result (λ refusal. Is refusal × FailsPutAt old new (Some name)) → TriesEvents old new (Some name)
+events_tried old new name bytes Is (Ok x) puts why = inl (bytes, tt, puts)
+events_tried old new name bytes Is (Err refusal) puts why = inr (inl why.1)
+
+pub unput : {T : Type 0} (output : Output) (Fails : Type 0) (result : Result T Refusal) → IfErr result (λ refusal. (refusal ≡ Unwritten output) × Fails) → IfErr result IsUnprinted
+unput output Fails (Ok x) why = tt
+unput output Fails (Err refusal) why = subst IsUnprinted (sym why.0) tt

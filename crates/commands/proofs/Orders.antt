@@ -1,85 +1,82 @@
--- The order of files, by what the judge that merges answers to their sources.
-use Rattle.std.proofs.Common.{◌≡◌, ◌<◌, refl, length, ℕ, List, [], ◌∷◌, ◌++◌, length-append, Option, Result, Ok, Err, vec_len, arith}
+-- What an order of files comes to, by what the judge that merges answers to their sources.
+use Rattle.std.proofs.Common.{◌≡◌, ◌<◌, refl, length, ℕ, List, [], ◌∷◌, ◌++◌, length-append, Option, Ok, arith}
 use Rattle.std.specs.Fmt.{decimal}
-use Rattle.std.specs.Prelude.{codes, IfErr, IfOk, IfSome, IsErrOf}
+use Rattle.std.specs.Prelude.{codes}
 use Rattle.std.proofs.KnownBytes.{Appends-nil}
 use Rattle.std.specs.Borrow.{Bor}
 use Rattle.command_line.specs.declared.request.Order.{Order}
+use Rattle.command_line.specs.declared.request.Request.TheVariants as request
 use Rattle.log_file.specs.Sets.{ReaderFailed}
-use Rattle.merge_judge.specs.Answer.{WritesOrder, judged}
+use Rattle.log_file.specs.Sinks.{Sink, Took}
+use Rattle.merge_judge.specs.Answer.{WritesOrder}
 use Rattle.merge_judge.specs.OrderText.{LacksEnd, order_text}
 use Rattle.merge_judge.specs.declared.merge_fault.MergeFault.{MergeFault}
 use Rattle.merge_judge.specs.declared.merge_fault.MergeFault.TheVariants.{Judge as MergeJudge, Write as MergeWrite}
-use Rattle.verdict.specs.Counts.{IsInRange, IsOutOfRange}
-use Rattle.verdict.specs.Judgement.{IsAnswerTo, IsYes}
+use Rattle.verdict.specs.Statuses.{verdict_status}
 use Rattle.verdict.specs.declared.answer.Verdict.{Verdict}
 use Rattle.verdict.specs.declared.answer.Verdict.TheVariants.{Yes, No}
-use Rattle.verdict.specs.declared.judge_fault.Count.TheVariants.{Files as FileCount, Workers, Programs as ProgramCount}
-use Rattle.verdict.specs.declared.judge_fault.JudgeFault.{JudgeFault}
 use Rattle.verdict.specs.declared.judge_fault.JudgeFault.TheVariants.{BadConfig, Log, Read, OutOfMemory}
 use Rattle.host_files.specs.Files.{Files, IsUnread}
-use Rattle.commands.specs.LogFiles.{AreSourcesOf, AreTextsOf, IsOpenFault, IsUnreadAt}
-use Rattle.commands.proofs.LogFiles.{as_counted, unopened_at, unread_at}
+use Rattle.commands.specs.LogFiles.{AreSourcesOf, AreTextsOf}
+use Rattle.verdict.specs.Judgement.{IsAnswerTo}
+use Rattle.commands.proofs.LogFiles.{unread_at}
 use Rattle.commands.specs.Checking.{TextsAreConsistent}
-use Rattle.commands.specs.Ordering.{IsOrdered, TakesOrder}
-use Rattle.commands.specs.Sinks.{HasFailed, Sink, Took}
-use Rattle.commands.specs.Refusals.{from_judge, from_merge}
-use Rattle.commands.specs.declared.refusal.Refusal.{Refusal}
+use Rattle.commands.specs.Ordering.{TakesOrder, TextsGetNo}
+use Rattle.commands.specs.Promises.{IsAnswered}
+use Rattle.commands.specs.Refusals.{from_merge}
+use Rattle.commands.specs.inner.Performing.{IsReadFault}
 
 -- the text of an order isn't empty
 some_text : 0 < length (order_text [])
 some_text = omega (arith, length-append (codes "end ") (decimal 0 ++ 10 ∷ []))
 
 -- nothing was written
-nothing : (sink : Sink) → Took sink sink LacksEnd
+pub nothing : (sink : Sink) → Took sink sink LacksEnd
 nothing sink = ([], Appends-nil sink.contents, ([], (0, some_text, refl)))
 
--- the files can't be opened
-pub not_opened : {S : Type 0} (remaining : S → Option (List ℕ)) (failed : S → ℕ) (old new : Files) (asked : Order) (sink : Sink) (fault : JudgeFault)
-    → IsOpenFault old new asked.files.items fault → IsOrdered old.told (IsUnread remaining failed old new) asked sink sink (Err (from_judge fault))
-not_opened remaining failed old new asked sink (BadConfig FileCount) why = (rw (as_counted asked.files) why.1, nothing sink)
-not_opened remaining failed old new asked sink (Read file) why = ((rw (as_counted asked.files) why.0, unopened_at remaining failed old new asked.files.items file why.1), nothing sink)
-not_opened remaining failed old new asked sink OutOfMemory why = (tt, nothing sink)
-not_opened remaining failed old new asked sink other why = absurd why
+-- the answer to the texts of the files, and what was written of the order
+abbrev pub OrdersTexts : (List ℕ → Option (List ℕ)) → List (Bor (List ℕ)) → Sink → Sink → Verdict → Type 0
+OrdersTexts told names out out' verdict = (texts : List (List ℕ)) × AreTextsOf told names texts × IsAnswerTo texts (Ok verdict) × Took out out' (WritesOrder texts (Ok verdict))
 
-abbrev pub lifted : Result Verdict MergeFault → Result Verdict Refusal
-lifted (Ok verdict) = Ok verdict
-lifted (Err fault) = Err (from_merge fault)
-
--- the files were merged
-pub merged : (told : List ℕ → Option (List ℕ)) (unread : List ℕ → Type 0) (asked : Order) (old new : Sink) (texts : List (List ℕ)) (result : Result Verdict MergeFault)
-    → IsInRange (vec_len asked.files) → AreTextsOf told asked.files.items texts → length texts ≡ vec_len asked.files
-    → IfSome (judged result) (IsAnswerTo texts) → Took old new (WritesOrder texts result)
-    → (IsErrOf result (MergeJudge (BadConfig FileCount)) → IsOutOfRange (vec_len asked.files))
-    → ¬ (IsErrOf result (MergeJudge (BadConfig Workers))) → ¬ (IsErrOf result (MergeJudge (BadConfig ProgramCount)))
-    → (IsErrOf result MergeWrite → HasFailed old new) → ((¬ (IsErrOf result MergeWrite)) → new.failed ≡ old.failed)
-    → IfErr result (λ fault. (file : ℕ) → fault ≡ MergeJudge (Read file) → IsUnreadAt unread asked.files.items file) → IsOrdered told unread asked old new (lifted result)
-merged told unread asked old new texts (Ok verdict) range tell many answers took files workers programs failed quiet reads =
-    (range, quiet (λ wrong. absurd cc), (texts, tell, answers, took))
-merged told unread asked old new texts (Err MergeWrite) range tell many answers took files workers programs failed quiet reads = ((range, failed refl), took)
-merged told unread asked old new texts (Err (MergeJudge (Log file line fault))) range tell many answers took files workers programs failed quiet reads =
-    ((range, texts, tell, answers), took)
-merged told unread asked old new texts (Err (MergeJudge (Read file))) range tell many answers took files workers programs failed quiet reads =
-    ((range, reads file refl), took)
-merged told unread asked old new texts (Err (MergeJudge OutOfMemory)) range tell many answers took files workers programs failed quiet reads = (tt, took)
-merged told unread asked old new texts (Err (MergeJudge (BadConfig FileCount))) range tell many answers took files workers programs failed quiet reads = (files refl, took)
-merged told unread asked old new texts (Err (MergeJudge (BadConfig Workers))) range tell many answers took files workers programs failed quiet reads = absurd (workers refl)
-merged told unread asked old new texts (Err (MergeJudge (BadConfig ProgramCount))) range tell many answers took files workers programs failed quiet reads = absurd (programs refl)
-
--- with a Yes the order was written
-pub taken : (told : List ℕ → Option (List ℕ)) (unread : List ℕ → Type 0) (asked : Order) (old new : Sink) (result : Result Verdict Refusal) → IsOrdered told unread asked old new result
-    → IfOk result (λ verdict. IsYes verdict → TakesOrder told asked.files.items old new)
-taken told unread asked old new (Err fault) is = tt
-taken told unread asked old new (Ok (Yes count)) is = λ yes. let (range, quiet, (texts, tell, answers, took)) = is in (texts, tell, took)
-taken told unread asked old new (Ok (No fault)) is = λ yes. absurd yes
-
--- and so the set is consistent
-pub consistent : (told : List ℕ → Option (List ℕ)) (names : List (Bor (List ℕ))) (old new : Sink) → TakesOrder told names old new → TextsAreConsistent told names
+-- the order of the set was written, so the set is consistent
+consistent : (told : List ℕ → Option (List ℕ)) (names : List (Bor (List ℕ))) (old new : Sink) → TakesOrder told names old new → TextsAreConsistent told names
 consistent told names old new (texts, tell, (written, appends, (logs, (spell, (order, is, text))))) = (texts, tell, (logs, spell, (order, is)))
 
--- a failed read of the merge is that of a reader
-pub reads_at : {S : Type 0} (remaining : S → Option (List ℕ)) (failed : S → ℕ) (old new : Files) (sources later : List S) (names : List (Bor (List ℕ))) (result : Result Verdict MergeFault)
-    → AreSourcesOf old.told remaining sources names → IfErr result (λ fault. (file : ℕ) → fault ≡ MergeJudge (Read file) → ReaderFailed failed sources later file)
-    → IfErr result (λ fault. (file : ℕ) → fault ≡ MergeJudge (Read file) → IsUnreadAt (IsUnread remaining failed old new) names file)
-reads_at remaining failed old new sources later names (Ok verdict) are reads = tt
-reads_at remaining failed old new sources later names (Err fault) are reads = λ file is. unread_at remaining failed old new sources later names file are (reads file is)
+-- with a Yes the order was written
+ordered : (told : List ℕ → Option (List ℕ)) (names : List (Bor (List ℕ))) (out out' : Sink) (verdict : Verdict) → OrdersTexts told names out out' verdict
+    → verdict_status verdict ≡ 0 → TakesOrder told names out out'
+ordered told names out out' (Yes count) (texts, tell, answers, took) zero = (texts, tell, took)
+ordered told names out out' (No fault) is zero = cc
+
+-- with a No it lacks its end
+unordered : (told : List ℕ → Option (List ℕ)) (names : List (Bor (List ℕ))) (out out' : Sink) (verdict : Verdict) → OrdersTexts told names out out' verdict
+    → verdict_status verdict ≡ 1 → TextsGetNo told names × Took out out' LacksEnd
+unordered told names out out' (Yes count) is one = cc
+unordered told names out out' (No fault) (texts, tell, answers, took) one = ((fault, (texts, tell, answers)), took)
+
+pub order_answer : (old new : Files) (out out' : Sink) (asked : Order) (verdict : Verdict) → OrdersTexts old.told asked.files.items out out' verdict
+    → IsAnswered old new out out' (request.Order asked) (verdict_status verdict)
+order_answer old new out out' asked verdict is = record {
+  sound = λ zero. consistent old.told asked.files.items out out' (ordered old.told asked.files.items out out' verdict is zero);
+  flat = λ zero. tt;
+  no = unordered old.told asked.files.items out out' verdict is;
+  order = ordered old.told asked.files.items out out' verdict is;
+  printed = tt;
+  shown = tt;
+  counted = tt;
+  vetted = λ zero. tt;
+  another = tt;
+  upgraded = λ zero. tt;
+  yes = λ zero apart. tt;
+}
+
+-- the files weren't merged
+pub merge_fault : {S : Type 0} (remaining : S → Option (List ℕ)) (failed : S → ℕ) (old new : Files) (asked : Order) (sources later : List S) (fault : MergeFault)
+    → AreSourcesOf old.told remaining sources asked.files.items → ((file : ℕ) → fault ≡ MergeJudge (Read file) → ReaderFailed failed sources later file)
+    → IsReadFault (IsUnread remaining failed old new) (request.Order asked) (from_merge fault)
+merge_fault remaining failed old new asked sources later (MergeJudge (Read file)) are fails =
+    record { unread = unread_at remaining failed old new sources later asked.files.items file are (fails file refl); of_file = tt }
+merge_fault remaining failed old new asked sources later (MergeJudge (Log file line fault)) are fails = record { unread = tt; of_file = tt }
+merge_fault remaining failed old new asked sources later (MergeJudge (BadConfig count)) are fails = record { unread = tt; of_file = tt }
+merge_fault remaining failed old new asked sources later (MergeJudge OutOfMemory) are fails = record { unread = tt; of_file = tt }
+merge_fault remaining failed old new asked sources later MergeWrite are fails = record { unread = tt; of_file = tt }

@@ -1,49 +1,33 @@
--- What is told of an answer to a search for another order, and the logs that it is made over.
-use Rattle.std.proofs.Common.{◌≡◌, ◌∙◌, ◌<◌, ◌≤◌, ap, sym, subst, List, ℕ, Result, Ok, Err, inl, inr, arith, get_or, length, vec_len}
-use Rattle.std.specs.Prelude.{All, IfOk}
+-- What an answer to a search for another order says, and the logs that it is made over.
+use Rattle.std.proofs.Common.{◌≡◌, ◌∙◌, ◌<◌, ◌≤◌, ◌⊎◌, ap, sym, subst, List, ℕ, inl, inr, arith, get_or, length, vec_len}
+use Rattle.std.specs.Prelude.{All}
 use Rattle.std.specs.Global.{Vec}
 use Rattle.std.proofs.lemmas.List.{get_or-map, length-map}
-use Rattle.log_record.specs.Entries.{record_lists}
+use Rattle.log_record.specs.Entries.{operations_of, record_lists}
 use Rattle.log_record.specs.declared.record.Record.{Record}
-use Rattle.mem_op.specs.Consistency.{Operation}
+use Rattle.mem_op.specs.Consistency.{Operation, IsConsistent}
 use Rattle.mem_op.specs.Limits.{operation_limit}
 use Rattle.mem_op.specs.declared.id.OpId.{OpId}
 use Rattle.refutation.specs.Answers.{IsRight}
 use Rattle.refutation.specs.declared.answer.Answer.{Answer}
 use Rattle.refutation.specs.declared.answer.Answer.TheVariants as found
-use Rattle.telling.specs.FirstLines.{IsGrown}
 use Rattle.verdict.specs.declared.basis.Basis.{Basis}
-use Rattle.commands.specs.OtherOrders.{TellsOrder, TellsSourced, another_text, by_others_text, by_sources_text, none_text}
+use Rattle.commands.proofs.SourceNumbers.{order_explains}
+use Rattle.commands.specs.Sources.{sourced_operations}
 use Rattle.commands.specs.inner.ReadLogs.{AreLogsOf}
 
--- an order is told as one
-pub tells_another : {T E : Type 0} (bytes : T → List ℕ) (another : List ℕ) (cores : List (List Operation)) (answer : Answer) (order : Vec OpId) (made : Result T E)
-    → IsRight cores answer → answer ≡ found.Order order → IfOk made (λ text. bytes text ≡ another) → IfOk made (λ text. TellsOrder another cores (bytes text))
-tells_another bytes another cores answer order (Ok text) right is same = inl (same, (order.items, subst (IsRight cores) is right))
-tells_another bytes another cores answer order (Err fault) right is same = tt
+-- an order that was found says that there is one
+pub found_order : (cores : List (List Operation)) (answer : Answer) (order : Vec OpId) → IsRight cores answer → answer ≡ found.Order order → IsConsistent cores
+found_order cores answer order right is = (order.items, subst (IsRight cores) is right)
 
--- and a refutation as none
-pub tells_none : (another : List ℕ) (cores : List (List Operation)) (answer : Answer) (steps : _) (text : List ℕ) → IsRight cores answer → answer ≡ found.Refutation steps
-    → IsGrown none_text text → TellsOrder another cores text
-tells_none another cores answer steps text right is grown = inr (inl (grown, subst (IsRight cores) is right))
-
--- an order that explains the sources, too
-pub tells_by_sources : {T E : Type 0} (bytes : T → List ℕ) (sourced cores : List (List Operation)) (answer : Answer) (order : Vec OpId) (made : Result T E)
-    → IsRight sourced answer → answer ≡ found.Order order → IfOk made (λ text. bytes text ≡ by_sources_text) → IfOk made (λ text. TellsSourced sourced cores (bytes text))
-tells_by_sources bytes sourced cores answer order (Ok text) right is same = inl (same, (order.items, subst (IsRight sourced) is right))
-tells_by_sources bytes sourced cores answer order (Err fault) right is same = tt
-
--- one where none explains the sources
-pub tells_by_others : {T E : Type 0} (bytes : T → List ℕ) (sourced cores : List (List Operation)) (answer : Answer) (steps : _) (made : Result T E)
-    → IsRight sourced answer → answer ≡ found.Refutation steps → IfOk made (λ text. TellsOrder by_others_text cores (bytes text)) → IfOk made (λ text. TellsSourced sourced cores (bytes text))
-tells_by_others bytes sourced cores answer steps (Ok text) right is tells = inr (inl (subst (IsRight sourced) is right, tells))
-tells_by_others bytes sourced cores answer steps (Err fault) right is tells = tt
-
--- one where it isn't known whether one explains the sources
-pub tells_any : {T E : Type 0} (bytes : T → List ℕ) (sourced cores : List (List Operation)) (made : Result T E)
-    → IfOk made (λ text. TellsOrder another_text cores (bytes text)) → IfOk made (λ text. TellsSourced sourced cores (bytes text))
-tells_any bytes sourced cores (Ok text) tells = inr (inr tells)
-tells_any bytes sourced cores (Err fault) tells = tt
+-- an order of the operations with their sources, or with their words, is one with their words
+pub by_words : (logs : List (List Record)) (basis : Basis) (cores : ℕ) → AreLogsOf logs basis cores → IsConsistent (sourced_operations logs) ⊎ IsConsistent (operations_of logs)
+    → IsConsistent (operations_of logs)
+by_words logs basis cores are (inl (order, is)) =
+    let many = are.many in
+    let few = are.few in
+    (order, order_explains logs order (omega (arith, many, few)) are.short is)
+by_words logs basis cores are (inr is) = is
 
 -- ---- the trace of the logs
 

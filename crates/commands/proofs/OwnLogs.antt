@@ -10,10 +10,10 @@ use Rattle.std.proofs.lemmas.List.{map-append}
 use Rattle.std.proofs.lemmas.List.Elements.{filter-append}
 use Rattle.std.proofs.lemmas.List.FromFn.{map-range_with_len_more}
 use Rattle.std.proofs.lemmas.List.Kept.{AllPairs-filter}
-use Rattle.std.proofs.lemmas.List.Sorted.{All-permutation, IsPermutation-sym}
+use Rattle.std.proofs.lemmas.List.Sorted.{IsPermutation-sym}
 use Rattle.std.proofs.lemmas.Map.Keys.{IsDistinct-from_apart, IsDistinct-IsPermutation, apart_from_distinct}
 use Rattle.line_stamps.specs.Ordered.{In, EachPair}
-use Rattle.line_stamps.proofs.Ordered.{AllPairs-from_each, In-filter, In-filtered, In-get_or}
+use Rattle.line_stamps.proofs.Ordered.{AllPairs-from_each, In-filter, In-filtered}
 use Rattle.log_record.specs.declared.record.Entry.{Entry}
 use Rattle.log_record.specs.declared.record.Record.{Record}
 use Rattle.log_record.specs.Entries.{core_entries, entries, entries_from, record_lists}

@@ -1,18 +1,16 @@
 -- What a yes to a trace with sources in place of words says of the logs.
-use Rattle.std.proofs.Common.{◌≡◌, ◌≤◌, subst, refl, ℕ, List, Option, Result, Ok, Err, arith, length}
-use Rattle.std.specs.Prelude.{IfOk}
+use Rattle.std.proofs.Common.{◌≡◌, ◌≤◌, subst, refl, ℕ, List, Option, arith, length}
 use Rattle.std.proofs.lemmas.Slice.Zip.{AllZip-long}
 use Rattle.command_line.specs.declared.request.TraceFiles.{TraceFiles}
 use Rattle.command_line.specs.declared.request.TraceFiles.TheVariants.{One, Logs, Sourced}
 use Rattle.log_file.proofs.Sets.{spelled_short}
 use Rattle.log_record.specs.Entries.{operations_of}
 use Rattle.mem_op.specs.Consistency.{Operation, IsConsistent, IsSequentialOrder}
-use Rattle.commands.proofs.Explained.{as_many}
+use Rattle.commands.proofs.Checks.{as_many}
 use Rattle.commands.proofs.SourceNumbers.{order_explains}
 use Rattle.commands.specs.SearchAnswers.{IsRightOf, search_status}
 use Rattle.commands.specs.Sources.{sourced_operations}
 use Rattle.commands.specs.Traces.{TellsTrace, own_files}
-use Rattle.commands.specs.declared.refusal.Refusal.{Refusal}
 use Rattle.commands.specs.declared.search_answer.SearchAnswer.{SearchAnswer}
 use Rattle.commands.specs.declared.search_answer.SearchAnswer.TheVariants.{Yes, No, NoBySources}
 
@@ -32,14 +30,9 @@ own_consistent told (Sourced names) (cores, (range, (texts, tell, (logs, spell, 
     by_sources : IsSequentialOrder (sourced_operations logs) order
     by_sources = subst (λ (cs : List (List Operation)). IsSequentialOrder cs order) same is
 
-of_yes : (told : List ℕ → Option (List ℕ)) (files : TraceFiles) (answer : SearchAnswer) → TellsTrace told files (λ cores. IsRightOf cores answer) → search_status answer ≡ 0
-    → TellsTrace told (own_files files) IsConsistent
-of_yes told files (Yes operations) (cores, is, right) zero = own_consistent told files (cores, is, right.0)
-of_yes told files (No operations) tells zero = absurd cc
-of_yes told files (NoBySources operations) tells zero = absurd cc
-
 -- a yes says that the operations of the logs themselves are consistent
-pub own_yes : (told : List ℕ → Option (List ℕ)) (files : TraceFiles) (result : Result SearchAnswer Refusal) → IfOk result (λ answer. TellsTrace told files (λ cores. IsRightOf cores answer))
-    → IfOk result (λ answer. search_status answer ≡ 0 → TellsTrace told (own_files files) IsConsistent)
-own_yes told files (Ok answer) tells = of_yes told files answer tells
-own_yes told files (Err fault) tells = tt
+pub own_yes : (told : List ℕ → Option (List ℕ)) (files : TraceFiles) (answer : SearchAnswer) → TellsTrace told files (λ cores. IsRightOf cores answer) → search_status answer ≡ 0
+    → TellsTrace told (own_files files) IsConsistent
+own_yes told files (Yes operations) (cores, is, right) zero = own_consistent told files (cores, is, right.0)
+own_yes told files (No operations) tells zero = absurd cc
+own_yes told files (NoBySources operations) tells zero = absurd cc

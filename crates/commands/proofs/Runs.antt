@@ -1,90 +1,87 @@
--- How a run ends after its simulation.
-use Rattle.std.proofs.Common.{◌≡◌, ℕ, List, length, inl, inr, refl, subst, Bor}
-use Rattle.std.specs.Prelude.{Option, None, Result, Ok, Err, IfErr, IfOk, OnOk}
-use Rattle.command_line.specs.declared.request.Sim.{Sim}
-use Rattle.lease_rule.specs.Ranges.{first_bad}
+-- What a run came to that was asked for.
+use Rattle.std.proofs.Common.{◌≡◌, ◌∷◌, ℕ, List, [], length, map, subst}
+use Rattle.std.proofs.lemmas.List.Elements.{Contains-append_right}
+use Rattle.audit.specs.Runs.{kept_log}
 use Rattle.core_program.specs.SetParts.{SetParts}
-use Rattle.simulation.specs.declared.command.Command.{Command}
-use Rattle.simulation.specs.Simulating.{IsSimulated, IsSimulationFault}
-use Rattle.simulation.specs.declared.fault.SimulationFault.{SimulationFault}
-use Rattle.core_machine.specs.Opening.{opening_parts}
+use Rattle.core_unit.specs.Parts.{UnitParts}
+use Rattle.lease_rule.specs.ConfigParts.{ConfigParts}
+use Rattle.log_record.specs.declared.format.Format.{Format}
+use Rattle.manager_slice.specs.Parts.{SliceParts}
+use Rattle.commands.specs.Numbers.{AreLeftAsFar, numbers_of}
+use Rattle.commands.specs.Programmed.{log_format}
 use Rattle.core_machine.specs.Parts.{CoreParts, world}
 use Rattle.core_machine.specs.Works.{log_at}
-use Rattle.host_files.specs.Files.{Files, IsOnlyRead, IsUnread}
-use Rattle.commands.specs.Logs.{performed_below}
-use Rattle.commands.specs.Programs.{AreProgramsIn, IsUnprogrammed}
-use Rattle.commands.specs.Numbers.{AreLeft, AreLeftAsFar, IsUnleft}
-use Rattle.commands.specs.Programmed.{config_of, log_format}
-use Rattle.commands.specs.Simulating.{AreCommandsOf, IsRun, IsTraced, IsTracedRun, IsUnscheduled, TriesEvents, numbers_in}
-use Rattle.commands.specs.declared.place.Input.TheVariants as input
-use Rattle.commands.specs.declared.place.Output.TheVariants as output
-use Rattle.commands.specs.declared.refusal.Refusal.{Refusal}
-use Rattle.commands.specs.declared.refusal.Refusal.TheVariants.{Programs, Schedule, Simulation, LogUnwritten, OutOfMemory, Unread, Unwritten}
+use Rattle.log_record.specs.declared.record.Record.{Record}
+use Rattle.command_line.specs.Files.{IsApart, files_put, files_read}
+use Rattle.command_line.specs.RunFiles.{IsLogName}
+use Rattle.command_line.specs.declared.request.Request.TheVariants as request
+use Rattle.command_line.specs.declared.request.Run.{Run}
+use Rattle.command_line.specs.declared.request.Sim.{Sim}
+use Rattle.host_files.specs.Files.{Files}
+use Rattle.commands.specs.Outputs.{IsNameOf}
+use Rattle.commands.specs.Promises.{IsAnswered, LeaveYes}
+use Rattle.commands.proofs.Unread.{first, later}
+use Rattle.log_file.specs.Sinks.{Sink}
 
-module _ (old new : Files) (unread : List ℕ → Type 0) (asked : Sim) (set : SetParts) (commands : List Command) (q : CoreParts)
-    (sound : first_bad (config_of asked.limits) ≡ None) (read : AreProgramsIn old.told asked.programs.now set)
-    (parsed : AreCommandsOf old.told asked.schedule (length set.programs) commands) where
-  pub faulted : (fault : SimulationFault) → IsSimulationFault commands asked.seed asked.stress (opening_parts set.programs (config_of asked.limits)) q fault
-      → AreLeftAsFar (log_format set.format) old new asked.out.now (length set.programs) (log_at (world q)) asked.statistics (numbers_in asked (length set.programs) q) → IsRun old new unread asked (Err (Simulation fault))
-  faulted fault is far = (sound, set, read, (commands, parsed, (q, is, far)))
+-- what holds of the logs that the units keep holds of the machine's
+pub of_machine : (q : CoreParts) (us : List UnitParts) → us ≡ map (λ seat. seat.unit) q.seats → ((core : ℕ) → kept_log us core ≡ log_at (world q) core)
+    → (Holds : (ℕ → List Record) → List UnitParts → Type 0) → Holds (kept_log us) us → Holds (log_at (world q)) (map (λ seat. seat.unit) q.seats)
+of_machine q us is same Holds holds = subst (Holds (log_at (world q))) is (subst (λ (logs : ℕ → List Record). Holds logs us) (λ i core. same core i) holds)
 
-  module _ (simulated : IsSimulated commands asked.seed asked.stress (opening_parts set.programs (config_of asked.limits)) q) where
-    pub ended : (count : ℕ) → count ≡ performed_below (log_at (world q)) (length set.programs)
-        → AreLeft (log_format set.format) old new asked.out.now (length set.programs) (log_at (world q)) asked.statistics (numbers_in asked (length set.programs) q) → IsRun old new unread asked (Ok count)
-    ended count counted put = (sound, set, read, (commands, parsed, (q, simulated, (counted, put))))
+-- and so do the numbers of the units and slices
+pub machine_left : (old mid : Files) (asked : Sim) (set : SetParts) (g : ConfigParts) (q : CoreParts) (us : List UnitParts) (ss : List SliceParts) (format : Format) (cores slices : ℕ)
+    → us ≡ map (λ seat. seat.unit) q.seats → ((core : ℕ) → kept_log us core ≡ log_at (world q) core) → ss ≡ q.slices
+    → cores ≡ length set.programs → format ≡ log_format set.format → slices ≡ g.slices
+    → AreLeftAsFar format old mid asked.out.now cores (kept_log us) asked.statistics (numbers_of cores slices us ss)
+    → AreLeftAsFar (log_format set.format) old mid asked.out.now (length set.programs) (log_at (world q)) asked.statistics
+    (numbers_of (length set.programs) g.slices (map (λ seat. seat.unit) q.seats) q.slices)
+machine_left old mid asked set g q us ss format cores slices is logs same many spelled parts far =
+    rw (← many, ← spelled, ← parts, ← same) (of_machine q us is logs (λ ls vs. AreLeftAsFar format old mid asked.out.now cores ls asked.statistics (numbers_of cores slices vs ss)) far)
 
-    pub unleft : (fault : Refusal) → IsUnleft (log_format set.format) old new asked.out.now (length set.programs) (log_at (world q)) asked.statistics fault
-        → IsRun old new unread asked (Err fault)
-    unleft (LogUnwritten file) why = (sound, set, read, (commands, parsed, (q, simulated, why)))
-    unleft OutOfMemory why = tt
-    unleft (Unwritten output.Statistics) why = (sound, set, read, (commands, parsed, (q, simulated, why)))
-    unleft other why = absurd why
+-- ---- what is put goes to no log
 
-    -- whatever was left, or not
-    pub came : (r : Result ℕ Refusal) → IfOk r (λ count. count ≡ performed_below (log_at (world q)) (length set.programs))
-        → OnOk r (AreLeft (log_format set.format) old new asked.out.now (length set.programs) (log_at (world q)) asked.statistics (numbers_in asked (length set.programs) q))
-        → IfErr r (IsUnleft (log_format set.format) old new asked.out.now (length set.programs) (log_at (world q)) asked.statistics)
-        → IsRun old new unread asked r
-    came (Ok count) counted left why = ended count counted left
-    came (Err fault) counted left why = unleft fault why
+pub sim_numbers_apart : (asked : Sim) → IsApart (request.Sim asked) → (name : List ℕ) → IsLogName asked.out.now name → ¬ (IsNameOf asked.statistics name)
+sim_numbers_apart asked apart name log is =
+    apart.logs name log (Contains-append_right (files_read (request.Sim asked)) (files_put (request.Sim asked)) name (first asked.statistics (asked.events ∷ []) name is))
 
--- there are no programs
-pub unprogrammed : (old new : Files) (unread : List ℕ → Type 0) (asked : Sim) (refusal : Refusal) → first_bad (config_of asked.limits) ≡ None
-    → IsUnprogrammed old.told unread asked.programs.now refusal → IsOnlyRead old new → IsRun old new unread asked (Err refusal)
-unprogrammed old new unread asked (Programs reason) sound why read = (read, sound, why)
-unprogrammed old new unread asked (Unread input.Programs) sound why read = (read, sound, why)
-unprogrammed old new unread asked OutOfMemory sound why read = tt
-unprogrammed old new unread asked other sound why read = absurd why
+pub sim_events_apart : (asked : Sim) → IsApart (request.Sim asked) → (name : List ℕ) → IsLogName asked.out.now name → ¬ (IsNameOf asked.events name)
+sim_events_apart asked apart name log is =
+    apart.logs name log (Contains-append_right (files_read (request.Sim asked)) (files_put (request.Sim asked)) name (later asked.statistics (asked.events ∷ []) name (first asked.events [] name is)))
 
--- there is no schedule
-pub unscheduled : {S : Type 0} (remaining : S → Option (List ℕ)) (failed : S → ℕ) (old now new : Files) (asked : Sim) (set : SetParts) (fault : Refusal) → first_bad (config_of asked.limits) ≡ None
-    → AreProgramsIn old.told asked.programs.now set → now ≡ old → IsUnscheduled now.told (IsUnread remaining failed now new) asked.schedule (length set.programs) fault
-    → IsOnlyRead old new → IsRun old new (IsUnread remaining failed old new) asked (Err fault)
-unscheduled remaining failed old now new asked set fault sound read same why only =
-    go fault (subst (λ (files : Files). IsUnscheduled files.told (IsUnread remaining failed files new) asked.schedule (length set.programs) fault) same why)
-  where
-    go : (fault : Refusal) → IsUnscheduled old.told (IsUnread remaining failed old new) asked.schedule (length set.programs) fault → IsRun old new (IsUnread remaining failed old new) asked (Err fault)
-    go (Schedule reason) why = (only, (sound, set, read, why))
-    go (Unread input.Schedule) why = (only, (sound, set, read, why))
-    go OutOfMemory why = tt
-    go other why = absurd why
+pub run_numbers_apart : (asked : Run) → IsApart (request.Run asked) → (name : List ℕ) → IsLogName asked.out.now name → ¬ (IsNameOf asked.statistics name)
+run_numbers_apart asked apart name log is =
+    apart.logs name log (Contains-append_right (files_read (request.Run asked)) (files_put (request.Run asked)) name (first asked.statistics [] name is))
 
--- ---- the events of a simulation
+-- ---- a run that has ended
 
--- nothing is put after what is refused
-pub untried : (mid : Files) (events : Option (Bor (List ℕ))) (fault : Refusal) → IsTraced mid mid events (Err fault) (Err fault)
-untried mid events (Simulation fault) = (refl, inr (inr refl))
-untried mid events fault = (refl, refl)
+pub sim_answered : (old new : Files) (out out' : Sink) (asked : Sim) → (IsApart (request.Sim asked) → LeaveYes old.told new.told (request.Sim asked))
+    → IsAnswered old new out out' (request.Sim asked) 0
+sim_answered old new out out' asked leaves = record {
+  sound = λ zero. tt;
+  flat = λ zero. tt;
+  no = λ one. tt;
+  order = λ zero. tt;
+  printed = tt;
+  shown = tt;
+  counted = tt;
+  vetted = λ zero. tt;
+  another = tt;
+  upgraded = λ zero. tt;
+  yes = λ zero. leaves;
+}
 
-pub untraced : (old new : Files) (unread : List ℕ → Type 0) (asked : Sim) (fault : Refusal) → IsRun old new unread asked (Err fault)
-    → IsTracedRun old new unread asked (Err fault)
-untraced old new unread asked fault is = (new, Err fault, is, untried new asked.events fault)
-
--- whatever came of them
-pub tried : (mid new : Files) (events : Option (Bor (List ℕ))) (first result : Result ℕ Refusal) → IsTraced mid new events first result → TriesEvents mid new events
-tried mid new events (Ok count) (Ok n) is = inl is.1
-tried mid new events (Ok count) (Err (Unwritten output.Events)) is = inr (inl is)
-tried mid new events (Ok count) (Err OutOfMemory) is = inr (inr is)
-tried mid new events (Ok count) (Err other) is = absurd is
-tried mid new events (Err (Simulation fault)) result is = is.1
-tried mid new events (Err fault) result is = inr (inr is.1)
+pub run_answered : (old new : Files) (out out' : Sink) (asked : Run) → (IsApart (request.Run asked) → LeaveYes old.told new.told (request.Run asked))
+    → IsAnswered old new out out' (request.Run asked) 0
+run_answered old new out out' asked leaves = record {
+  sound = λ zero. tt;
+  flat = λ zero. tt;
+  no = λ one. tt;
+  order = λ zero. tt;
+  printed = tt;
+  shown = tt;
+  counted = tt;
+  vetted = λ zero. tt;
+  another = tt;
+  upgraded = λ zero. tt;
+  yes = λ zero. leaves;
+}

@@ -1,93 +1,148 @@
--- What a search comes to, from what its parts answer.
-use Rattle.std.proofs.Common.{◌≡◌, refl, subst, sym, inl, inr, ℕ, Bor, List, Option, Result, Ok, Err}
-use Rattle.std.specs.Prelude.{IfOk}
-use Rattle.host_files.specs.Files.{Files, IsOnlyRead}
-use Rattle.commands.specs.Outputs.{FailsPutAt}
+-- What a search and a look at a certificate come to, from what was found.
+use Rattle.std.proofs.Common.{◌≡◌, ◌∙◌, refl, subst, sym, ap, ℕ, Bor, List, Option, None, Some}
+use Rattle.host_files.specs.Files.{Files, KeepsFiles}
+use Rattle.log_file.specs.Devices.{Tells}
+use Rattle.log_file.specs.Sinks.{Sink, line}
+use Rattle.command_line.specs.declared.request.Confirm.{Confirm}
+use Rattle.command_line.specs.declared.request.Request.TheVariants as request
 use Rattle.command_line.specs.declared.request.Search.{Search}
 use Rattle.command_line.specs.declared.request.TraceFiles.{TraceFiles}
 use Rattle.command_line.specs.declared.request.TraceFiles.TheVariants.{One, Logs, Sourced}
 use Rattle.mem_op.specs.Consistency.{Operation, IsConsistent}
-use Rattle.refutation.specs.declared.answer.Answer.{Answer}
-use Rattle.refutation.specs.declared.answer.Answer.TheVariants as found
 use Rattle.refutation.proofs.Sound.{refutations_hold}
 use Rattle.telling.specs.FirstLines.{operation_count}
-use Rattle.commands.specs.Naming.{IsNameless}
-use Rattle.commands.specs.SearchAnswers.{IsRightOf, no_of}
-use Rattle.commands.specs.Searching.{AnswersBy, Finds, IsProof, IsSearched, PutsProof}
-use Rattle.commands.specs.Traces.{AreTraceless, IsTraceIn, TellsTrace}
-use Rattle.commands.specs.inner.Finding.{IsGivenUp, IsUnput, IsUnputAt}
-use Rattle.commands.specs.declared.search_answer.SearchAnswer.{SearchAnswer}
+use Rattle.commands.proofs.OwnTraces.{own_yes}
+use Rattle.commands.proofs.Performed.{right_no}
+use Rattle.commands.specs.Confirming.{Certifies, TellsBoth}
+use Rattle.commands.specs.Outputs.{HoldsAt, IsNameOf}
+use Rattle.commands.specs.Promises.{IsAnswered, IsUnreadThere}
+use Rattle.commands.specs.SearchAnswers.{IsRightOf, no_of, search_status, search_text}
+use Rattle.commands.specs.Searching.{IsNamedApart, IsRefutationText, Shows}
+use Rattle.commands.specs.Traces.{IsTraceIn, TellsTrace}
+use Rattle.commands.specs.inner.Performing.{IsReadFault}
+use Rattle.verdict.specs.declared.judge_fault.JudgeFault.TheVariants.{Read}
+use Rattle.commands.specs.VerdictLines.{IsTraceLine, SaysVerdict}
 use Rattle.commands.specs.declared.place.Input.TheVariants as input
-use Rattle.commands.specs.declared.place.Output.TheVariants as output
 use Rattle.commands.specs.declared.refusal.Refusal.{Refusal}
-use Rattle.commands.specs.declared.refusal.Refusal.TheVariants.{Judge, Names, Trace, Undecided, OutOfMemory, Unread, Unwritten}
+use Rattle.commands.specs.declared.refusal.Refusal.TheVariants.{Judge, Unread}
+use Rattle.commands.specs.declared.search_answer.SearchAnswer.{SearchAnswer}
+use Rattle.commands.specs.declared.search_answer.SearchAnswer.TheVariants.{Yes, No, NoBySources}
 
--- ---- what proofs say
+-- ---- which answers are right
 
 -- a no is right of whichever files
-pub no_right : (files : TraceFiles) (cores : List (List Operation)) → ¬ (IsConsistent cores) → IsRightOf cores (no_of files (operation_count cores))
+no_right : (files : TraceFiles) (cores : List (List Operation)) → ¬ (IsConsistent cores) → IsRightOf cores (no_of files (operation_count cores))
 no_right (One name) cores isnt = (isnt, refl)
 no_right (Logs names) cores isnt = (isnt, refl)
 no_right (Sourced names) cores isnt = (isnt, refl)
 
--- the answer that a proof gives is right
-pub right_of : (files : TraceFiles) (cores : List (List Operation)) (proof : Answer) (answer : SearchAnswer) → IsProof cores proof → AnswersBy files cores proof answer
-    → IsRightOf cores answer
-right_of files cores (found.Order order) answer is by = subst (IsRightOf cores) (sym by) ((order.items, is), refl)
-right_of files cores (found.Refutation steps) answer is by = subst (IsRightOf cores) (sym by) (no_right files cores (refutations_hold cores steps is))
-right_of files cores found.Undecided answer is by = absurd is
+pub no_answer : (files : TraceFiles) (cores : List (List Operation)) (operations : ℕ) (answer : SearchAnswer) → answer ≡ no_of files operations → operations ≡ operation_count cores
+    → ¬ (IsConsistent cores) → IsRightOf cores answer
+no_answer files cores operations answer same many isnt = subst (IsRightOf cores) (sym (same ∙ ap (no_of files) many)) (no_right files cores isnt)
 
--- ---- the whole
+no_status : (files : TraceFiles) (operations : ℕ) → search_status (no_of files operations) ≡ 1
+no_status (One name) operations = refl
+no_status (Logs names) operations = refl
+no_status (Sourced names) operations = refl
 
--- the files tell no trace
-pub traceless : (old new : Files) (unread : List ℕ → Type 0) (asked : Search) (fault : Refusal) → AreTraceless old.told unread asked.trace fault
-    → IsOnlyRead old new → IsSearched old new unread asked (Err fault)
-traceless old new unread asked (Trace fault) is read = (is, read)
-traceless old new unread asked (Unread input.Trace) is read = (is, read)
-traceless old new unread asked (Judge fault) is read = (is, read)
-traceless old new unread asked OutOfMemory is read = tt
-traceless old new unread asked other is read = absurd is
+certified : (files : TraceFiles) (cores : List (List Operation)) (text : List ℕ) (answer : SearchAnswer) → Certifies files cores text answer → IsRightOf cores answer
+certified files cores text (Yes operations) ((order, is, spells), many) = ((order, is), many)
+certified files cores text (No operations) ((steps, spells, is), told) = subst (IsRightOf cores) (sym told) (no_right files cores (refutations_hold cores steps is))
+certified files cores text (NoBySources operations) ((steps, spells, is), told) = subst (IsRightOf cores) (sym told) (no_right files cores (refutations_hold cores steps is))
 
--- addresses have no names
-pub nameless : (old new : Files) (unread : List ℕ → Type 0) (asked : Search) (fault : Refusal) → IsNameless old.told unread asked.names fault → IsOnlyRead old new
-    → IsSearched old new unread asked (Err fault)
-nameless old new unread asked (Names line) is read = (is, read)
-nameless old new unread asked (Unread input.Names) is read = (is, read)
-nameless old new unread asked OutOfMemory is read = tt
-nameless old new unread asked other is read = absurd is
+-- the answer that a certificate gives is right
+pub certificate_right : (told : List ℕ → Option (List ℕ)) (asked : Confirm) (answer : SearchAnswer) → TellsBoth told asked (λ cores text. Certifies asked.trace cores text answer)
+    → TellsTrace told asked.trace (λ cores. IsRightOf cores answer)
+certificate_right told asked answer (cores, there, (text, tells, certifies)) = (cores, there, certified asked.trace cores text answer certifies)
 
--- the search gives up, in a folder that is as it was
-pub given_up : (old new : Files) (unread : List ℕ → Type 0) (asked : Search) (cores : List (List Operation)) (fault : Refusal) → IsTraceIn old.told asked.trace cores
-    → new ≡ old → IsGivenUp fault → IsSearched old new unread asked (Err fault)
-given_up old new unread asked cores Undecided is same why = ((cores, is, tt), same)
-given_up old new unread asked cores OutOfMemory is same why = tt
-given_up old new unread asked cores other is same why = absurd why
+-- the line of an answer that is right
+pub trace_line : (told : List ℕ → Option (List ℕ)) (files : TraceFiles) (answer : SearchAnswer) → TellsTrace told files (λ cores. IsRightOf cores answer)
+    → IsTraceLine told files (search_status answer) (line (search_text answer))
+trace_line told files answer tells = (answer, tells, refl, refl)
 
--- what holds where a put failed and where memory ran out holds of the fault that tells it
-unput_at : (P : Refusal → Type 0) (unwritten : Refusal) (old new : Files) (name : Option (Bor (List ℕ))) (fault : Refusal) → IsUnputAt unwritten old new name fault
-    → (FailsPutAt old new name → P unwritten) → P OutOfMemory → P fault
-unput_at P unwritten old new name fault (inl why) failed memory = subst P (sym why.0) (failed why.1)
-unput_at P unwritten old new name fault (inr is) failed memory = subst P (sym is) memory
+-- ---- what was put
 
--- what was found isn't put
-pub unput : (old new : Files) (unread : List ℕ → Type 0) (asked : Search) (cores : List (List Operation)) (proof : Answer) (fault : Refusal)
-    → IsTraceIn old.told asked.trace cores → IsProof cores proof → IsUnput old new asked proof fault → IsSearched old new unread asked (Err fault)
-unput old new unread asked cores (found.Order order) fault is proves why =
-    unput_at (λ f. IsSearched old new unread asked (Err f)) (Unwritten output.Order) old new asked.order fault why (λ fails. ((cores, is, (order.items, proves)), fails)) tt
-unput old new unread asked cores (found.Refutation steps) fault is proves (inl why) =
-    unput_at (λ f. IsSearched old new unread asked (Err f)) (Unwritten output.Refutation) old new asked.refutation fault why (λ fails. ((cores, is, refutations_hold cores steps proves), fails)) tt
-unput old new unread asked cores (found.Refutation steps) fault is proves (inr (between, puts, why)) =
-    unput_at (λ f. IsSearched old new unread asked (Err f)) (Unwritten output.Picture) between new asked.picture fault why (λ fails. (cores, is, (steps, proves, (between, puts, fails)))) tt
-unput old new unread asked cores found.Undecided fault is proves why = absurd proves
+-- a file that holds bytes of one kind holds those of another
+pub holds_such : (told : List ℕ → Option (List ℕ)) (given : Option (Bor (List ℕ))) (P Q : List ℕ → Type 0) → ((bytes : List ℕ) → P bytes → Q bytes) → HoldsAt told given P
+    → HoldsAt told given Q
+holds_such told None P Q turned holds = tt
+holds_such told (Some name) P Q turned (bytes, tells, is) = (bytes, tells, turned bytes is)
 
--- it was put
-pub finds : (old now new : Files) (asked : Search) (cores : List (List Operation)) (proof : Answer) (answer : SearchAnswer) → IsTraceIn old.told asked.trace cores → now ≡ old
-    → IsProof cores proof → AnswersBy asked.trace cores proof answer → PutsProof now new asked proof → TellsTrace old.told asked.trace (λ cores. Finds old new asked cores answer)
-finds old now new asked cores proof answer is same proves by puts =
-    (cores, is, record { proof = proof; is_proof = proves; answers = by; puts = subst (λ (files : Files). PutsProof files new asked proof) same puts })
+-- it holds them still after another file was put
+pub holds_still : (told told' : List ℕ → Option (List ℕ)) (given : Option (Bor (List ℕ))) (IsPut P : List ℕ → Type 0) → ((name : List ℕ) → IsNameOf given name → ¬ (IsPut name))
+    → KeepsFiles told told' IsPut → HoldsAt told given P → HoldsAt told' given P
+holds_still told told' None IsPut P apart keeps holds = tt
+holds_still told told' (Some name) IsPut P apart keeps (bytes, tells, is) =
+    (bytes, subst (λ (o : Option (List ℕ)). Tells o bytes) (sym (keeps name.now (apart name.now refl))) tells, is)
 
--- and so the answer is right
-pub right : (old new : Files) (unread : List ℕ → Type 0) (asked : Search) (result : Result SearchAnswer Refusal) → IsSearched old new unread asked result
-    → IfOk result (λ answer. TellsTrace old.told asked.trace (λ cores. IsRightOf cores answer))
-right old new unread asked (Err fault) is = tt
-right old new unread asked (Ok answer) (cores, there, finds) = (cores, there, right_of asked.trace cores finds.proof answer finds.is_proof finds.answers)
+-- after a no a refutation is shown
+pub shows_no : (told : List ℕ → Option (List ℕ)) (asked : Search) (cores : List (List Operation)) (operations : ℕ) (answer : SearchAnswer) → answer ≡ no_of asked.trace operations
+    → (IsNamedApart asked → HoldsAt told asked.refutation (IsRefutationText cores)) → Shows told asked (search_status answer) cores
+shows_no told asked cores operations answer same holds = record {
+  order = λ zero. (let one : 0 ≡ 1 = sym zero ∙ ap search_status same ∙ no_status asked.trace operations in cc);
+  refutation = λ one. holds;
+}
+
+-- ---- what a search comes to
+
+module _ (old new : Files) (out out' : Sink) (asked : Search) (cores : List (List Operation)) (answer : SearchAnswer) where
+  pub found : IsTraceIn old.told asked.trace cores → IsRightOf cores answer → Shows new.told asked (search_status answer) cores
+      → SaysVerdict old.told out out' (request.Search asked) (search_status answer) → IsAnswered old new out out' (request.Search asked) (search_status answer)
+  found there right shows says = record {
+    sound = own_yes old.told asked.trace answer (cores, there, right);
+    flat = λ zero. tt;
+    no = right_no old.told asked.trace answer (cores, there, right);
+    order = λ zero. tt;
+    printed = says;
+    shown = (cores, there, shows);
+    counted = tt;
+    vetted = λ zero. tt;
+    another = tt;
+    upgraded = λ zero. tt;
+    yes = λ zero apart. tt;
+  }
+
+-- ---- what a look at a certificate comes to
+
+vet_unread : (unread : List ℕ → Type 0) (asked : Confirm) (refusal : Refusal) → IsUnreadThere unread (request.Confirm asked) refusal → IsUnreadThere unread (request.Vet asked) refusal
+vet_unread unread asked (Judge (Read file)) is = is
+vet_unread unread asked (Unread input.Trace) is = is
+vet_unread unread asked (Unread input.Certificate) is = is
+vet_unread unread asked (Unread place) is = absurd is
+vet_unread unread asked other is = tt
+
+-- a refusal to confirm is one to vet
+pub vet_fault : (unread : List ℕ → Type 0) (asked : Confirm) (refusal : Refusal) → IsReadFault unread (request.Confirm asked) refusal → IsReadFault unread (request.Vet asked) refusal
+vet_fault unread asked refusal why = record { unread = vet_unread unread asked refusal why.unread; of_file = why.of_file }
+
+pub confirmed : (old new : Files) (out out' : Sink) (asked : Confirm) (answer : SearchAnswer) → TellsTrace old.told asked.trace (λ cores. IsRightOf cores answer)
+    → SaysVerdict old.told out out' (request.Confirm asked) (search_status answer) → IsAnswered old new out out' (request.Confirm asked) (search_status answer)
+confirmed old new out out' asked answer right says = record {
+  sound = own_yes old.told asked.trace answer right;
+  flat = λ zero. tt;
+  no = right_no old.told asked.trace answer right;
+  order = λ zero. tt;
+  printed = says;
+  shown = tt;
+  counted = tt;
+  vetted = λ zero. tt;
+  another = tt;
+  upgraded = λ zero. tt;
+  yes = λ zero apart. tt;
+}
+
+pub vetted : (old new : Files) (out out' : Sink) (asked : Confirm) (answer : SearchAnswer) → TellsBoth old.told asked (λ cores text. Certifies asked.trace cores text answer)
+    → IsAnswered old new out out' (request.Vet asked) 0
+vetted old new out out' asked answer (cores, there, (text, tells, certifies)) = record {
+  sound = λ zero. tt;
+  flat = λ zero. tt;
+  no = λ one. tt;
+  order = λ zero. tt;
+  printed = tt;
+  shown = tt;
+  counted = tt;
+  vetted = λ zero. (cores, there, (text, tells, (answer, certifies)));
+  another = tt;
+  upgraded = λ zero. tt;
+  yes = λ zero apart. tt;
+}

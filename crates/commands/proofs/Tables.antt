@@ -1,20 +1,14 @@
--- A row of a table that passes a test.
-use Rattle.std.proofs.Common.{◌≡◌, ℕ, zero, suc, ◌+◌, ◌<◌, Bool, true, false, ◌||◌, List, [], ◌∷◌, length, take, get_or, refl, sym, subst, arith}
-use Rattle.std.specs.List.{list_any}
+-- The table of a litmus test's runs.
+use Rattle.std.proofs.Common.{◌≡◌, ◌∙◌, ℕ, Bool, true, false, Option}
+use Rattle.std.proofs.lemmas.List.{length-map}
+use Rattle.lease_rule.specs.ConfigParts.{ConfigParts}
+use Rattle.litmus.specs.Collecting.{total}
+use Rattle.litmus.specs.Parts.{LitmusParts}
+use Rattle.litmus.specs.declared.collecting.Collected.{Collected}
+use Rattle.commands.specs.Tabling.{IsTableBy}
 
-none_further : {A : Type 0} (p : A → Bool) (rows : List A) (n : ℕ) (row : A) → n < length rows → row ≡ get_or rows n row → list_any p (take n rows) ≡ false → p row ≡ false
-    → list_any p (take (suc n) rows) ≡ false
-none_further p [] n row below is none fails = absurd (omega (arith, below))
-none_further p (r ∷ rows) zero row below is none fails = let same : row ≡ r = is in rw (sym same, fails) refl
-none_further p (r ∷ rows) (suc n) row below is none fails = go (p r) (λ e. none_further p rows n row (omega (arith, below)) is e fails) none
-  where
-    go : (b : Bool) → (list_any p (take n rows) ≡ false → list_any p (take (suc n) rows) ≡ false) → (b || list_any p (take n rows)) ≡ false
-        → (b || list_any p (take (suc n) rows)) ≡ false
-    go true more e = absurd cc
-    go false more e = more e
-
-pub none_more : {A : Type 0} (p : A → Bool) (rows : List A) (n : ℕ) (row : A) → n < length rows → row ≡ get_or rows n row → list_any p (take n rows) ≡ false → p row ≡ false
-    → list_any p (take (n + 1) rows) ≡ false
-none_more p rows n row below is none fails =
-    let next : suc n ≡ n + 1 = omega arith in
-    subst (λ (k : ℕ). list_any p (take k rows) ≡ false) next (none_further p rows n row below is none fails)
+-- its counts add up to the runs
+pub counted : (threads : Bool) (t : LitmusParts) (g : ConfigParts) (runs seed : ℕ) (stress : Option ℕ) (collected : Collected) → IsTableBy threads t g runs seed stress collected
+    → total collected.table.rows ≡ runs
+counted true t g runs seed stress collected is = is.rows.all ∙ length-map is.ends _ ∙ is.count
+counted false t g runs seed stress collected is = is.rows.all ∙ length-map is.ends _ ∙ is.count

@@ -13,11 +13,6 @@ pub first : (given : Option (Bor (List ℕ))) (more : List (Option (Bor (List �
 first None more name is = absurd is
 first (Some given) more name is = (0, omega arith, sym is)
 
-pub front : (given : Option (Bor (List ℕ))) (more : List (Option (Bor (List ℕ)))) (name : List ℕ) → Contains (names_given (given ∷ [])) name
-    → Contains (names_given (given ∷ more)) name
-front None more name has = Contains-append_left [] (names_given more) name has
-front (Some given) more name has = Contains-append_left (given.now ∷ []) (names_given more) name has
-
 pub later : (given : Option (Bor (List ℕ))) (more : List (Option (Bor (List ℕ)))) (name : List ℕ) → Contains (names_given more) name
     → Contains (names_given (given ∷ more)) name
 later None more name has = has

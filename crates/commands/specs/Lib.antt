@@ -1,12 +1,9 @@
 pub mod Answers
 pub mod Checking
 pub mod Confirming
-pub mod Explaining
-pub mod Inspecting
 pub mod Leaving
 pub mod LogFiles
 pub mod Logs
-pub mod Naming
 pub mod Numbers
 pub mod OrderTexts
 pub mod Ordering
@@ -21,9 +18,9 @@ pub mod Running
 pub mod SearchAnswers
 pub mod Searching
 pub mod Simulating
-pub mod Sinks
 pub mod Sources
 pub mod Tabling
 pub mod Traces
 pub mod Upgrading
+pub mod VerdictLines
 pub mod inner

@@ -9,7 +9,7 @@ use Rattle.verdict.specs.Counts.{IsInRange, IsOutOfRange}
 use Rattle.verdict.specs.declared.judge_fault.Count.TheVariants.{Files as FileCount}
 use Rattle.verdict.specs.declared.judge_fault.JudgeFault.{JudgeFault}
 use Rattle.verdict.specs.declared.judge_fault.JudgeFault.TheVariants.{BadConfig, Read, OutOfMemory}
-use Rattle.host_files.specs.Files.{Files, IsFirstRefused, IsOnlyRead}
+use Rattle.host_files.specs.Files.{Files, IsFirstRefused}
 
 -- these are sources of the files of these names: each tells the bytes that the folder tells, if it tells any
 abbrev pub AreSourcesOf : {S : Type 0} → (List ℕ → Option (List ℕ)) → (S → Option (List ℕ)) → List S → List (Bor (List ℕ)) → Type 0
@@ -36,9 +36,3 @@ IsOpenFault old new names (BadConfig FileCount) = (new ≡ old) × IsOutOfRange 
 IsOpenFault old new names (Read file) = IsInRange (length names) × IsUnreadAt (IsFirstRefused old new) names file
 IsOpenFault old new names OutOfMemory = ⊤
 IsOpenFault old new names other = ⊥
-
--- the folder may have refused a file if this is why there are no logs: one can't be opened or read, or memory ran out; else it is as it was
-abbrev pub IsLeft : Files → Files → JudgeFault → Type 0
-IsLeft old new (Read file) = IsOnlyRead old new
-IsLeft old new OutOfMemory = IsOnlyRead old new
-IsLeft old new other = new ≡ old

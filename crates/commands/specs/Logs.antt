@@ -1,13 +1,11 @@
 -- The logs that the folder tells, all of one format. `made` gives the log of each core.
-use Rattle.std.specs.Prelude.{◌≡◌, ◌≢◌, ◌⊎◌, ⊤, ℕ, zero, suc, ◌+◌, ◌<◌, List, length, Option}
+use Rattle.std.specs.Prelude.{◌≡◌, ◌≢◌, ◌⊎◌, ℕ, ◌+◌, ◌<◌, List, Option}
 use Rattle.log_file.specs.Devices.{Failed, Tells}
 use Rattle.log_file.specs.Log.{SpellsIn}
 use Rattle.log_record.specs.declared.format.Format.{Format}
 use Rattle.log_record.specs.declared.record.Record.{Record}
 use Rattle.host_files.specs.Files.{Files}
 pub use Rattle.command_line.specs.RunFiles.{log_name}
-use Rattle.commands.specs.declared.refusal.Refusal.{Refusal}
-use Rattle.commands.specs.declared.refusal.Refusal.TheVariants.{LogUnwritten, OutOfMemory}
 
 -- the folder tells the log of core c of `cores` under its name, spelled in this format
 abbrev pub TellsLog : Format → (List ℕ → Option (List ℕ)) → List ℕ → ℕ → (ℕ → List Record) → ℕ → Type 0
@@ -48,14 +46,3 @@ abbrev pub ArePutAsFar : Format → Files → Files → List ℕ → ℕ → (�
 ArePutAsFar format old new out cores made =
     ArePut format old new out cores made
     ⊎ (((c : ℕ) × ArePutUpTo format old new out cores made c) ⊎ ((c : ℕ) × ArePutBefore format old new out cores made c))
-
--- how many operations the first cores have performed
-abbrev pub performed_below : (ℕ → List Record) → ℕ → ℕ
-performed_below made zero = 0
-performed_below made (suc c) = performed_below made c + length (made c)
-
--- the log of a core can't be written, and this holds of the core's number; or memory ran out
-abbrev pub IsUnwritten : (ℕ → Type 0) → Refusal → Type 0
-IsUnwritten Holds (LogUnwritten file) = Holds file
-IsUnwritten Holds OutOfMemory = ⊤
-IsUnwritten Holds other = ⊥

@@ -1,5 +1,5 @@
 -- What a run leaves in the folder: its logs, and then its numbers.
-use Rattle.std.specs.Prelude.{◌≡◌, ◌⊎◌, ⊤, ℕ, List, Option, map, take}
+use Rattle.std.specs.Prelude.{◌⊎◌, ℕ, List, Option, map, take}
 use Rattle.std.specs.Borrow.{Bor}
 use Rattle.log_record.specs.declared.format.Format.{Format}
 use Rattle.log_record.specs.declared.record.Record.{Record}
@@ -8,12 +8,9 @@ use Rattle.core_unit.specs.Parts.{UnitParts}
 use Rattle.statistics.specs.Numbers.{core_counts, slice_counts}
 use Rattle.statistics.specs.TableText.{statistics_text}
 use Rattle.host_files.specs.Files.{Files}
-use Rattle.commands.specs.Logs.{ArePut, ArePutAsFar, ArePutUpTo}
+use Rattle.commands.specs.Logs.{ArePut, ArePutAsFar}
 use Rattle.commands.specs.Outputs.{FailsPutAt, IsNameOf, PutsAt}
 use Rattle.command_line.specs.RunFiles.{IsLogName}
-use Rattle.commands.specs.declared.place.Output.TheVariants as output
-use Rattle.commands.specs.declared.refusal.Refusal.{Refusal}
-use Rattle.commands.specs.declared.refusal.Refusal.TheVariants.{LogUnwritten, OutOfMemory, Unwritten}
 
 -- the text of the numbers of the first `cores` units and the first `slices` slices
 abbrev pub numbers_of : ℕ → ℕ → List UnitParts → List SliceParts → List ℕ
@@ -23,29 +20,12 @@ numbers_of cores slices us ss = statistics_text (map core_counts (take cores us)
 abbrev pub IsLeftName : List ℕ → Option (Bor (List ℕ)) → List ℕ → Type 0
 IsLeftName out statistics name = IsLogName out name ⊎ IsNameOf statistics name
 
--- why the numbers weren't put: the put failed, or memory ran out before it
-abbrev pub IsUnput : Files → Files → Option (Bor (List ℕ)) → Refusal → Type 0
-IsUnput old new statistics fault = ((fault ≡ Unwritten output.Statistics) × FailsPutAt old new statistics) ⊎ ((fault ≡ OutOfMemory) × (new ≡ old))
-
 -- the logs of all cores were put, and then this holds of the folder before and after
 abbrev pub AreLeftThen : Format → Files → Files → List ℕ → ℕ → (ℕ → List Record) → (Files → Files → Type 0) → Type 0
 AreLeftThen format old new out cores made Then = (mid : Files) × ArePut format old mid out cores made × Then mid new
 
--- the logs of all cores were put, and then the numbers whose text this is
-abbrev pub AreLeft : Format → Files → Files → List ℕ → ℕ → (ℕ → List Record) → Option (Bor (List ℕ)) → List ℕ → Type 0
-AreLeft format old new out cores made statistics text =
-    AreLeftThen format old new out cores made (λ mid after. PutsAt mid after statistics text)
-
--- the same up to the first put that failed, or to where memory ran out
+-- The logs were put, and then the numbers whose text this is, up to the first put that failed, or to where memory ran out.
 abbrev pub AreLeftAsFar : Format → Files → Files → List ℕ → ℕ → (ℕ → List Record) → Option (Bor (List ℕ)) → List ℕ → Type 0
 AreLeftAsFar format old new out cores made statistics text =
     ArePutAsFar format old new out cores made
     ⊎ AreLeftThen format old new out cores made (λ mid after. PutsAt mid after statistics text ⊎ FailsPutAt mid after statistics)
-
--- why not all was left: a log or the numbers can't be written, or memory ran out
-abbrev pub IsUnleft : Format → Files → Files → List ℕ → ℕ → (ℕ → List Record) → Option (Bor (List ℕ)) → Refusal → Type 0
-IsUnleft format old new out cores made statistics (LogUnwritten file) = ArePutUpTo format old new out cores made file
-IsUnleft format old new out cores made statistics OutOfMemory = ⊤
-IsUnleft format old new out cores made statistics (Unwritten output.Statistics) =
-    AreLeftThen format old new out cores made (λ mid after. FailsPutAt mid after statistics)
-IsUnleft format old new out cores made statistics other = ⊥

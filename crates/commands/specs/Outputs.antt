@@ -1,5 +1,5 @@
 -- A file that is put if a name was given for it. The folder was `old` before and is `new` after.
-use Rattle.std.specs.Prelude.{◌≡◌, ℕ, List, Option, None, Some}
+use Rattle.std.specs.Prelude.{◌≡◌, ⊤, ℕ, List, Option, None, Some}
 use Rattle.std.specs.Borrow.{Bor}
 use Rattle.log_file.specs.Devices.{Failed, Tells}
 use Rattle.host_files.specs.Files.{Files, KeepsFiles}
@@ -29,3 +29,8 @@ PutsSuchAt old new (Some name) Holds = (bytes : List ℕ) × Holds bytes × Puts
 abbrev pub FailsPutAt : Files → Files → Option (Bor (List ℕ)) → Type 0
 FailsPutAt old new None = ⊥
 FailsPutAt old new (Some name) = Failed old.failed new.failed × KeepsFiles old.told new.told (λ other. other ≡ name.now)
+
+-- the file of the name that was given, if one was, has bytes of which this holds
+abbrev pub HoldsAt : (List ℕ → Option (List ℕ)) → Option (Bor (List ℕ)) → (List ℕ → Type 0) → Type 0
+HoldsAt told None Holds = ⊤
+HoldsAt told (Some name) Holds = (bytes : List ℕ) × Tells (told name.now) bytes × Holds bytes

@@ -3,7 +3,7 @@ use Rattle.std.specs.Prelude.{◌≡◌, ◌⊎◌, ⊤, ℕ, List, [], Contains
 use Rattle.std.specs.Borrow.{Bor}
 use Rattle.std.specs.Option.{IsSomeAnd}
 use Rattle.command_line.specs.Asking.{AreRefused, Asks}
-use Rattle.command_line.specs.Files.{files_read}
+use Rattle.command_line.specs.Files.{IsApart, files_read}
 use Rattle.command_line.specs.RunFiles.{IsLogName}
 use Rattle.command_line.specs.declared.request.Request.{Request}
 use Rattle.command_line.specs.declared.request.Request.TheVariants.{Check, Order, Explain, Inspect, Vet, Upgrade, Sim, Run, Litmus, Search, Confirm, Replay}
@@ -22,9 +22,13 @@ use Rattle.commands.specs.Outputs.{IsNameOf}
 use Rattle.commands.specs.Refusals.{refusal_status, refusal_text}
 use Rattle.commands.specs.Replaying.{IsConsistentText, IsOutOfOrder, TellsText}
 use Rattle.commands.specs.Running.{LeavesRun}
-use Rattle.commands.specs.Searching.{IsOutputName}
+use Rattle.commands.specs.Searching.{IsOutputName, ShowsAnswer}
+use Rattle.commands.specs.VerdictLines.{SaysNoMore, SaysVerdict, TellsVerdict}
+use Rattle.commands.specs.Tabling.{AreRunsCounted}
+use Rattle.commands.specs.Confirming.{HasCertificate}
+use Rattle.commands.specs.OtherOrders.{TellsAnother}
 use Rattle.commands.specs.Simulating.{IsSimName, LeavesTraced}
-use Rattle.commands.specs.Sinks.{Sink, Takes, Took, line}
+use Rattle.log_file.specs.Sinks.{Sink, Takes, Took, line}
 use Rattle.commands.specs.Traces.{TellsTrace, own_files}
 use Rattle.commands.specs.Upgrading.{LeavesAnew}
 use Rattle.commands.specs.declared.place.Input.{Input}
@@ -32,11 +36,11 @@ use Rattle.commands.specs.declared.place.Input.TheVariants as input
 use Rattle.commands.specs.declared.refusal.Refusal.{Refusal}
 use Rattle.commands.specs.declared.refusal.Refusal.TheVariants as refused
 pub use Rattle.host_files.specs.Files.{KeepsFiles}
-pub use Rattle.commands.specs.Sinks.{sink_of}
+pub use Rattle.log_file.specs.Sinks.{sink_of}
 
--- the words ask for something, and this holds of it
+-- the words ask for something that puts no file in the place of another, and this holds of it
 abbrev pub AskFor : List (List ℕ) → (Request → Type 0) → Type 0
-AskFor words Holds = (asked : Request) × Asks words asked × Holds asked
+AskFor words Holds = (asked : Request) × Asks words asked × IsApart asked × Holds asked
 
 -- ---- after 0
 
@@ -86,6 +90,56 @@ AreWrong told out out' (Search asked) = TellsTrace told asked.trace (λ cores. �
 AreWrong told out out' (Confirm asked) = TellsTrace told asked.trace (λ cores. ¬ (IsConsistent cores))
 AreWrong told out out' (Replay asked) = TellsText told asked.trace.now IsOutOfOrder
 AreWrong told out out' other = ⊤
+
+-- ---- after 0 or 1
+
+-- standard output took the line of the verdict first
+abbrev pub ArePrinted : (List ℕ → Option (List ℕ)) → Sink → Sink → Request → ℕ → Type 0
+ArePrinted told out out' (Check asked) status = SaysVerdict told out out' (Check asked) status
+ArePrinted told out out' (Explain asked) status = SaysVerdict told out out' (Explain asked) status
+ArePrinted told out out' (Search asked) status = SaysVerdict told out out' (Search asked) status
+ArePrinted told out out' (Confirm asked) status = SaysVerdict told out out' (Confirm asked) status
+ArePrinted told out out' (Replay asked) status = SaysVerdict told out out' (Replay asked) status
+ArePrinted told out out' other status = ⊤
+
+-- of an order standard error took the line of the verdict, or failed after a beginning of it
+abbrev pub AreToldAside : (List ℕ → Option (List ℕ)) → Sink → Sink → Request → ℕ → Type 0
+AreToldAside told err err' (Order asked) status = TellsVerdict told err err' (Order asked) status
+AreToldAside told err err' other status = ⊤
+
+-- what a search was to put shows its answer
+abbrev pub AreShown : (List ℕ → Option (List ℕ)) → (List ℕ → Option (List ℕ)) → Request → ℕ → Type 0
+AreShown told told' (Search asked) status = ShowsAnswer told told' asked status
+AreShown told told' other status = ⊤
+
+-- standard output took the table of as many runs of the litmus test as were asked for
+abbrev pub AreCounted : (List ℕ → Option (List ℕ)) → Sink → Sink → Request → ℕ → Type 0
+AreCounted told out out' (Litmus asked) status = AreRunsCounted told asked out out' status
+AreCounted told out out' other status = ⊤
+
+-- the certificate that was looked at is one of the trace
+abbrev pub AreVetted : (List ℕ → Option (List ℕ)) → Request → Type 0
+AreVetted told (Vet asked) = HasCertificate told asked
+AreVetted told other = ⊤
+
+-- an explanation says that another order explains all values only where one does
+abbrev pub TellAnother : (List ℕ → Option (List ℕ)) → Sink → Sink → Request → Type 0
+TellAnother told out out' (Explain asked) = TellsAnother told asked out out'
+TellAnother told out out' other = ⊤
+
+-- the request was answered with this status
+pub record IsAnswered (old new : Files) (out out' : Sink) (asked : Request) (status : ℕ) : Type 0 where
+  pub sound : status ≡ 0 → AreConsistent old.told asked
+  pub flat : status ≡ 0 → RunFlat old.told asked
+  pub no : status ≡ 1 → AreWrong old.told out out' asked
+  pub order : status ≡ 0 → AreOrdered old.told out out' asked
+  pub printed : ArePrinted old.told out out' asked status
+  pub shown : AreShown old.told new.told asked status
+  pub counted : AreCounted old.told out out' asked status
+  pub vetted : status ≡ 0 → AreVetted old.told asked
+  pub another : TellAnother old.told out out' asked
+  pub upgraded : status ≡ 0 → AreUpgraded old new asked
+  pub yes : status ≡ 0 → IsApart asked → LeaveYes old.told new.told asked
 
 -- ---- which files are put
 
@@ -171,10 +225,16 @@ IsUnreadThere unread asked (refused.Judge (Read file)) = IsUnreadAt unread (logs
 IsUnreadThere unread asked (refused.Unread place) = IsSomeAnd (file_at asked place) (λ name. unread name.now)
 IsUnreadThere unread asked refusal = ⊤
 
--- what standard output took of an order lacks the `end` line
-abbrev pub IsUnended : Sink → Sink → Request → Type 0
-IsUnended out out' (Order asked) = Took out out' LacksEnd
-IsUnended out out' other = ⊤
+-- What standard output took lacks the `end` line of an order. Of another verdict it took nothing, or a beginning where it failed. Where an explanation
+-- is refused for a file, it is told there.
+abbrev pub IsCutShort : (List ℕ → Option (List ℕ)) → Sink → Sink → Request → Refusal → Type 0
+IsCutShort told out out' (Order asked) refusal = Took out out' LacksEnd
+IsCutShort told out out' (Check asked) refusal = SaysNoMore told out out' (Check asked) refusal
+IsCutShort told out out' (Explain asked) (refused.Unwritten place) = SaysNoMore told out out' (Explain asked) (refused.Unwritten place)
+IsCutShort told out out' (Search asked) refusal = SaysNoMore told out out' (Search asked) refusal
+IsCutShort told out out' (Confirm asked) refusal = SaysNoMore told out out' (Confirm asked) refusal
+IsCutShort told out out' (Replay asked) refusal = SaysNoMore told out out' (Replay asked) refusal
+IsCutShort told out out' other refusal = ⊤
 
 -- What holds after this refusal of the request. If the refusal comes before any file is put, no file is changed. `Unread` holds of the name of a file
 -- that couldn't be opened or read.
@@ -182,7 +242,7 @@ pub record IsRefused (old new : Files) (Unread : List ℕ → Type 0) (out out' 
   pub kept : ComesFirst refusal → new.told ≡ old.told
   pub left : LeavesSoFar old new asked refusal
   pub unread : IsUnreadThere Unread asked refusal
-  pub unended : IsUnended out out' asked
+  pub cut : IsCutShort old.told out out' asked refusal
 
 -- standard error took the line of this refusal, or failed after a beginning of it; and the refusal has this exit status
 pub record IsTold (err err' : Sink) (exit : ℕ) (refusal : Refusal) : Type 0 where
@@ -194,8 +254,10 @@ abbrev pub IsRefusedCall : Files → Files → (List ℕ → Type 0) → Sink �
 IsRefusedCall old new unread out out' err err' status asked =
     (refusal : Refusal) × IsTold err err' status refusal × IsRefused old new unread out out' asked refusal
 
--- Words that are refused for their usage, or for which there was no memory: the folder and standard output are as they were.
-pub record AreUnasked (old new : Files) (words : List (List ℕ)) (out out' : Sink) (status : ℕ) : Type 0 where
+-- Words that are refused for their usage, or for which there was no memory: the folder and standard output are as they were, and standard error took a
+-- line, or failed after a beginning of it.
+pub record AreUnasked (old new : Files) (words : List (List ℕ)) (out out' err err' : Sink) (status : ℕ) : Type 0 where
   pub files : new ≡ old
   pub output : out' ≡ out
+  pub told : (text : List ℕ) × Takes err err' (line text)
   pub reason : ((status ≡ 3) × AreRefused words) ⊎ (status ≡ 4)

@@ -4,32 +4,20 @@ use Rattle.std.specs.Fmt.{decimal}
 use Rattle.mem_op.specs.Names.{name_text}
 use Rattle.mem_op.specs.declared.fault_name.FaultName.TheVariants as named
 use Rattle.core_program.specs.FaultTexts.{fault_text as program_fault_text}
-use Rattle.core_program.specs.declared.fault.ProgramFault.{ProgramFault}
-use Rattle.core_program.specs.declared.fault.ProgramFault.TheVariants as program
 use Rattle.lease_rule.specs.Faults.{fault_text as config_fault_text}
 use Rattle.litmus.specs.TestFaultTexts.{fault_text as test_fault_text}
-use Rattle.litmus.specs.declared.litmus_fault.LitmusFault.{LitmusFault}
-use Rattle.litmus.specs.declared.litmus_fault.LitmusFault.TheVariants as test
 use Rattle.litmus.specs.declared.run_cause.RunCause.{RunCause}
 use Rattle.litmus.specs.declared.run_cause.RunCause.TheVariants as cause
 use Rattle.litmus.specs.RunFaults.{cause_text, fault_text as table_fault_text}
 use Rattle.litmus.specs.declared.run_fault.CollectFault.{CollectFault}
 use Rattle.litmus.specs.declared.run_fault.CollectFault.TheVariants as table
-use Rattle.log_file.specs.declared.device_fault.WriteFault.{WriteFault}
-use Rattle.log_file.specs.declared.device_fault.WriteFault.TheVariants as write
 use Rattle.machine.specs.Faults.{fault_text as run_fault_text}
 use Rattle.merge_judge.specs.declared.merge_fault.MergeFault.{MergeFault}
 use Rattle.merge_judge.specs.declared.merge_fault.MergeFault.TheVariants as merge
 use Rattle.refutation.specs.FaultTexts.{fault_text as certificate_fault_text}
-use Rattle.refuted_cases.specs.declared.names.NamesFault.{NamesFault}
-use Rattle.refuted_cases.specs.declared.names.NamesFault.TheVariants as names
 use Rattle.simulation.specs.ScheduleFaultTexts.{fault_text as schedule_fault_text}
-use Rattle.simulation.specs.declared.schedule_fault.ScheduleFault.{ScheduleFault}
-use Rattle.simulation.specs.declared.schedule_fault.ScheduleFault.TheVariants as schedule
 use Rattle.simulation.specs.Faults.{fault_text as simulation_fault_text}
 use Rattle.trace.specs.FaultTexts.{fault_text as trace_fault_text}
-use Rattle.trace.specs.declared.fault.TraceFault.{TraceFault}
-use Rattle.trace.specs.declared.fault.TraceFault.TheVariants as trace
 use Rattle.verdict.specs.Texts.{judge_fault_text}
 use Rattle.verdict.specs.declared.judge_fault.JudgeFault.{JudgeFault}
 use Rattle.verdict.specs.declared.judge_fault.JudgeFault.TheVariants as judge
@@ -49,34 +37,6 @@ from_judge fault = Judge fault
 abbrev pub from_merge : MergeFault → Refusal
 from_merge (merge.Judge fault) = from_judge fault
 from_merge merge.Write = Unwritten output.Standard
-
-abbrev pub from_program : ProgramFault → Refusal
-from_program program.OutOfMemory = OutOfMemory
-from_program fault = Programs fault
-
-abbrev pub from_trace : TraceFault → Refusal
-from_trace trace.OutOfMemory = OutOfMemory
-from_trace fault = Trace fault
-
-abbrev pub from_names : NamesFault → Refusal
-from_names (names.BadLine line) = Names line
-from_names names.OutOfMemory = OutOfMemory
-
-abbrev pub from_schedule : ScheduleFault → Refusal
-from_schedule schedule.OutOfMemory = OutOfMemory
-from_schedule fault = Schedule fault
-
-abbrev pub from_test : LitmusFault → Refusal
-from_test test.OutOfMemory = OutOfMemory
-from_test fault = Test fault
-
-abbrev pub from_collect : CollectFault → Refusal
-from_collect table.OutOfMemory = OutOfMemory
-from_collect fault = Collect fault
-
-abbrev pub from_write : WriteFault → Refusal
-from_write write.OutOfMemory = OutOfMemory
-from_write write.Write = Unwritten output.Standard
 
 -- ---- texts
 

@@ -1,11 +1,7 @@
 -- Definitions that serve private contracts alone.
-pub mod Certificates
 pub mod CoreLogs
-pub mod Finding
-pub mod Looking
+pub mod Explaining
 pub mod Performing
-pub mod Putting
+pub mod Printing
 pub mod ReadLogs
-pub mod ReadTraces
 pub mod Texts
-pub mod Replays

@@ -1,7 +1,7 @@
 //! What a command answers.
 
 ghost use Rattle.std.specs.Prelude.{◌≡◌};
-ghost use Rattle.commands.specs.Answers.{answer_status};
+ghost use Rattle.commands.specs.Answers.{answer_status, answer_text};
 
 use super::search_answer::SearchAnswer;
 use command_line::FileKind;
@@ -60,6 +60,8 @@ impl CommandAnswer {
 }
 
 impl Display for CommandAnswer {
+    ghost output = { λ answer. answer_text answer };
+
     fn fmt<W: fmt::Write>(&self, f: &mut fmt::Formatter<W>) -> fmt::Result {
         match self {
             CommandAnswer::Judged(verdict)

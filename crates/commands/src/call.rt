@@ -1,6 +1,6 @@
 //! One call of the program.
 
-ghost use Rattle.std.specs.Prelude.{◌≡◌, ◌≤◌, ◌⊎◌};
+ghost use Rattle.std.specs.Prelude.{◌≡◌, ◌<◌, ◌≤◌, ◌⊎◌};
 ghost use Rattle.host_files.specs.Files.{IsUnread};
 ghost use Rattle.command_line.specs.Asking.{texts};
 ghost use Rattle.commands.specs.Promises as promises;
@@ -8,13 +8,13 @@ ghost use Rattle.commands.specs.inner.Performing.{Came};
 
 use super::answer::CommandAnswer;
 use super::check_files::check;
-use super::confirm_files::confirm;
+use super::confirm_files::{confirm, vet};
 use super::explain_files::explain;
 use super::inspect_files::inspect;
 use super::litmus_files::count_outcomes;
 use super::more::tell_more;
 use super::order_files::order;
-use super::output::{print_answer, print_done, refuse, tell, tell_answer};
+use super::output::{print_answer, refuse, tell_answer, tell_usage};
 use super::refusal::Refusal;
 use super::replay_file::{ReplayWatch, replay};
 use super::run_files::run;
@@ -48,22 +48,16 @@ pub fn command<
     O: ByteSink,
     E: ByteSink,
 >(rt: &R, alloc: Global, words: &[&str], watch: &W, folder: &mut F, out: &mut O, err: &mut E) -> u8
-    ensures sound { result ≡ 0 → promises.AskFor (texts words.entry.now)
-        (promises.AreConsistent (F.files folder.old).told) }
-    ensures flat { result ≡ 0 → promises.AskFor (texts words.entry.now)
-        (promises.RunFlat (F.files folder.old).told) }
-    ensures no { result ≡ 1 → promises.AskFor (texts words.entry.now) (promises.AreWrong (F.files folder.old).told
-        (promises.sink_of O.contents O.failed out.old) (promises.sink_of O.contents O.failed out.new)) }
-    ensures order { result ≡ 0 → promises.AskFor (texts words.entry.now) (promises.AreOrdered (F.files folder.old).told
-        (promises.sink_of O.contents O.failed out.old) (promises.sink_of O.contents O.failed out.new)) }
-    ensures upgraded { result ≡ 0 → promises.AskFor (texts words.entry.now)
-        (promises.AreUpgraded (F.files folder.old) (F.files folder.new)) }
-    ensures yes { result ≡ 0 → promises.AskFor (texts words.entry.now)
-        (promises.LeaveYes (F.files folder.old).told (F.files folder.new).told) }
+    ensures answered { result < 2 → promises.AskFor (texts words.entry.now) (λ asked. promises.IsAnswered
+        (F.files folder.old) (F.files folder.new)
+        (promises.sink_of O.contents O.failed out.old) (promises.sink_of O.contents O.failed out.new) asked result) }
+    ensures aside { result < 2 → promises.AskFor (texts words.entry.now) (λ asked. promises.AreToldAside (F.files folder.old).told
+        (promises.sink_of E.contents E.failed err.old) (promises.sink_of E.contents E.failed err.new) asked result) }
     ensures files { promises.KeepsFiles (F.files folder.old).told (F.files folder.new).told
         (λ name. promises.AskFor (texts words.entry.now) (λ asked. promises.IsPutUnread asked name)) }
     ensures refused { 2 ≤ result → promises.AreUnasked (F.files folder.old) (F.files folder.new)
-        (texts words.entry.now) (promises.sink_of O.contents O.failed out.old) (promises.sink_of O.contents O.failed out.new) result
+        (texts words.entry.now) (promises.sink_of O.contents O.failed out.old) (promises.sink_of O.contents O.failed out.new)
+        (promises.sink_of E.contents E.failed err.old) (promises.sink_of E.contents E.failed err.new) result
         ⊎ promises.AskFor (texts words.entry.now) (promises.IsRefusedCall (F.files folder.old) (F.files folder.new)
         (IsUnread F.Source.remaining F.Source.failed (F.files folder.old) (F.files folder.new))
         (promises.sink_of O.contents O.failed out.old) (promises.sink_of O.contents O.failed out.new)
@@ -72,7 +66,7 @@ pub fn command<
     let request = match read(alloc, words) {
         Ok(request) => request,
         Err(Misuse::Usage(text)) => {
-            tell(err, text.as_str());
+            tell_usage(err, text.as_str());
             return USAGE;
         }
         Err(Misuse::OutOfMemory) => {
@@ -108,38 +102,18 @@ fn perform<
         (promises.sink_of O.contents O.failed out.old) (promises.sink_of O.contents O.failed out.new) request.now result }
 {
     match request {
-        Request::Check(asked) => {
-            let found = check(rt, alloc, folder, asked)?;
-            print_answer(alloc, out, CommandAnswer::Judged(found.verdict()))
-        }
-        Request::Order(asked) => Ok(CommandAnswer::Ordered(order(alloc, folder, asked, out)?)),
-        Request::Explain(asked) => Ok(CommandAnswer::Explained(explain(
-            rt, alloc, watch, folder, asked, out,
-        )?)),
-        Request::Inspect(asked) => {
-            let cores = inspect(alloc, folder, asked)?;
-            print_answer(alloc, out, CommandAnswer::Readable(asked.kind, cores))
-        }
-        Request::Sim(asked) => print_done(alloc, out, sim(alloc, folder, asked)?),
-        Request::Run(asked) => print_done(alloc, out, run(rt, alloc, watch, folder, asked)?),
-        Request::Upgrade(asked) => print_done(alloc, out, upgrade(alloc, folder, asked)?),
-        Request::Search(asked) => Ok(CommandAnswer::Searched(search(
-            alloc, watch, folder, asked, out,
-        )?)),
-        Request::Confirm(asked) => {
-            let answer = confirm(alloc, folder, asked)?;
-            print_answer(alloc, out, CommandAnswer::Searched(answer))
-        }
-        Request::Vet(asked) => {
-            let answer = confirm(alloc, folder, asked)?;
-            print_answer(alloc, out, CommandAnswer::Certified(answer))
-        }
-        Request::Replay(asked) => Ok(CommandAnswer::Replayed(replay(
-            alloc, watch, folder, asked, out,
-        )?)),
+        Request::Check(asked) => check(rt, alloc, folder, asked, out),
+        Request::Order(asked) => order(alloc, folder, asked, out),
+        Request::Explain(asked) => explain(rt, alloc, watch, folder, asked, out),
+        Request::Inspect(asked) => inspect(alloc, folder, asked, out),
+        Request::Sim(asked) => sim(alloc, folder, asked, out),
+        Request::Run(asked) => run(rt, alloc, watch, folder, asked, out),
+        Request::Upgrade(asked) => upgrade(alloc, folder, asked, out),
+        Request::Search(asked) => search(alloc, watch, folder, asked, out),
+        Request::Confirm(asked) => confirm(alloc, folder, asked, out),
+        Request::Vet(asked) => vet(alloc, folder, asked, out),
+        Request::Replay(asked) => replay(alloc, watch, folder, asked, out),
         Request::Version => print_answer(alloc, out, CommandAnswer::Version),
-        Request::Litmus(asked) => Ok(CommandAnswer::Counted(count_outcomes(
-            rt, alloc, folder, asked, out,
-        )?)),
+        Request::Litmus(asked) => count_outcomes(rt, alloc, folder, asked, out),
     }
 }

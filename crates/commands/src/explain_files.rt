@@ -1,25 +1,28 @@
 //! The verdict on the logs of a set, and why it is so.
 
-ghost use Rattle.std.specs.Prelude.{◌≡◌, ◌↔◌, ◌++◌, ℕ, List, IfErr, IfOk, IfSome, IsSome, IsTrue, OnOk, MatchResult, string_bytes};
-ghost use Rattle.explain.specs.Pictures.{HasPicture, IsDrawn};
+ghost use Rattle.std.specs.Prelude.{◌≡◌, List, IfErr, IfOk, IsTrue, string_bytes};
+ghost use Rattle.std.specs.Str.Iter.{HasSubslice};
+ghost use Rattle.command_line.specs.declared.request.Request.TheVariants as request;
 ghost use Rattle.log_record.specs.declared.record.Record.{Record};
-ghost use Rattle.pictures.specs.Pictures.{IsPicture};
 ghost use Rattle.verdict.specs.CoreFaultsOf.{given};
 ghost use Rattle.verdict.specs.Bases.{IsExaminationOf};
+ghost use Rattle.telling.specs.FirstLines.{IsGrown};
 ghost use Rattle.verdict.specs.Texts.{verdict_text};
-ghost use Rattle.commands.specs.Checking as checking;
-ghost use Rattle.commands.specs.Explaining as explaining;
+ghost use Rattle.commands.specs.OtherOrders.{another_words};
+ghost use Rattle.commands.specs.inner.Explaining.{IsExplained};
 ghost use Rattle.host_files.specs.Files.{IsOnlyRead, IsUnread, KeepsFiles};
-ghost use Rattle.commands.specs.Naming.{HasNames};
-ghost use Rattle.commands.specs.Outputs.{FailsPutAt, IsNameOf};
-ghost use Rattle.commands.specs.Sinks.{line, sink_of};
+ghost use Rattle.commands.specs.Outputs.{IsNameOf};
+ghost use Rattle.log_file.specs.Sinks.{line, sink_of};
+ghost use Rattle.commands.specs.inner.Performing.{Came, IsReadFault};
 
-use super::check_files::check;
-use super::other_order::other_order;
+use super::answer::CommandAnswer;
+use super::check_files::judge;
+use super::other_order::{LastLines, other_order};
 use super::place::Output;
 use super::putting::put_under;
 use super::refusal::Refusal;
 use super::text::read_names;
+use super::verdict_line::verdict_line;
 use command_line::Explain;
 use core_program::ProgramSet;
 use explain::{Explanation, explain as explained};
@@ -36,6 +39,9 @@ use verdict::{Examined, Verdict};
 /// The words if a picture is asked for and the set is too large for one.
 const NO_PICTURE: &str =
     "picture        none, of more than 200 operations; where there is a file of its name, that is an older one\n";
+
+/// The words by which the last lines say that another order explains all values.
+const ANOTHER_WORDS: &str = "so this run is sequentially consistent";
 
 /// The words about a verdict.
 #[derive(Drop)]
@@ -55,28 +61,20 @@ pub(crate) fn explain<R: Threads + Sync, W: SearchWatch, F: Folder, O: ByteSink>
     folder: &mut F,
     asked: &Explain<'_>,
     out: &mut O,
-) -> Result<Verdict, Refusal>
-    ensures exact { explaining.IsExplained (F.files folder.old) (F.files folder.new)
-        (IsUnread F.Source.remaining F.Source.failed (F.files folder.old) (F.files folder.new)) asked.now
-        (sink_of O.contents O.failed out.old) (sink_of O.contents O.failed out.new) result }
-    ensures files { KeepsFiles (F.files folder.old).told (F.files folder.new).told
-        (IsNameOf asked.now.picture) }
-    ensures named { IfOk result (λ _. HasNames (F.files folder.old).told asked.now.names) }
+) -> Result<CommandAnswer, Refusal>
+    ensures { Came (F.files folder.old) (F.files folder.new)
+        (IsUnread F.Source.remaining F.Source.failed (F.files folder.old) (F.files folder.new))
+        (sink_of O.contents O.failed out.old) (sink_of O.contents O.failed out.new) (request.Explain asked.now) result }
 {
     let told = tell(rt, alloc, watch, folder, asked)?;
     put_picture(folder, asked.picture, &told)?;
     write_all(out, told.text.as_bytes())?;
-    Ok(told.verdict)
+    Ok(CommandAnswer::Explained(told.verdict))
 }
 
 /// Puts a picture under a name, if there is a name and a picture.
 fn put_picture<F: Folder>(folder: &mut F, name: Option<&str>, told: &Told) -> Result<(), Refusal>
-    requires picture { IfSome told.now.picture (λ svg. IsPicture (string_bytes svg)) }
-    requires drawn { IsSome name → IsSome told.now.picture ↔ HasPicture told.now.verdict }
-    ensures ok { OnOk result (explaining.PutsPictureAt told.now.verdict
-        (F.files folder.old) (F.files folder.new) name.entry) }
-    ensures err { IfErr result (λ fault. (fault ≡ Refusal.Unwritten Output.Picture) × HasPicture told.now.verdict
-        × FailsPutAt (F.files folder.old) (F.files folder.new) name.entry) }
+    ensures err { IfErr result (λ fault. fault ≡ Refusal.Unwritten Output.Picture) }
     ensures files { KeepsFiles (F.files folder.old).told (F.files folder.new).told
         (IsNameOf name.entry) }
 {
@@ -96,18 +94,10 @@ fn tell<R: Threads + Sync, W: SearchWatch, F: Folder>(
     folder: &mut F,
     asked: &Explain<'_>,
 ) -> Result<Told, Refusal>
-    ensures exact { MatchResult result
-        (λ told. checking.IsChecked (F.files folder.old).told
-        (IsUnread F.Source.remaining F.Source.failed (F.files folder.old) (F.files folder.new)) asked.now.check (Ok told.verdict))
-        (λ fault. explaining.IsUnjudged (F.files folder.old).told
-        (IsUnread F.Source.remaining F.Source.failed (F.files folder.old) (F.files folder.new)) asked.now fault) }
-    ensures named { IfOk result (λ _. HasNames (F.files folder.old).told asked.now.names) }
-    ensures quiet { OnOk result (F.files folder.new ≡ F.files folder.old) }
+    ensures ok { IfOk result (λ told. IsExplained (F.files folder.old).told asked.now told.verdict (string_bytes told.text)) }
+    ensures err { IfErr result (IsReadFault
+        (IsUnread F.Source.remaining F.Source.failed (F.files folder.old) (F.files folder.new)) (request.Explain asked.now)) }
     ensures read { IsOnlyRead (F.files folder.old) (F.files folder.new) }
-    ensures text { IfOk result (λ told. explaining.TellsVerdict (F.files folder.old).told asked.now
-        told.verdict (string_bytes told.text)) }
-    ensures picture { IfOk result (λ told. IfSome told.picture (λ svg. IsPicture (string_bytes svg))) }
-    ensures drawn { IsSome asked.now.picture → IfOk result (λ told. IsSome told.picture ↔ HasPicture told.verdict) }
 {
     let names = read_names(alloc, folder, asked.names)?;
     tell_named(rt, alloc, watch, folder, asked, &names)
@@ -122,19 +112,12 @@ fn tell_named<R: Threads + Sync, W: SearchWatch, F: Folder>(
     asked: &Explain<'_>,
     names: &Names,
 ) -> Result<Told, Refusal>
-    ensures exact { MatchResult result
-        (λ told. checking.IsChecked (F.files folder.old).told
-        (IsUnread F.Source.remaining F.Source.failed (F.files folder.old) (F.files folder.new)) asked.now.check (Ok told.verdict))
-        (λ fault. checking.IsChecked (F.files folder.old).told
-        (IsUnread F.Source.remaining F.Source.failed (F.files folder.old) (F.files folder.new)) asked.now.check (Err fault)) }
-    ensures quiet { OnOk result (F.files folder.new ≡ F.files folder.old) }
+    ensures ok { IfOk result (λ told. IsExplained (F.files folder.old).told asked.now told.verdict (string_bytes told.text)) }
+    ensures err { IfErr result (IsReadFault
+        (IsUnread F.Source.remaining F.Source.failed (F.files folder.old) (F.files folder.new)) (request.Explain asked.now)) }
     ensures read { IsOnlyRead (F.files folder.old) (F.files folder.new) }
-    ensures text { IfOk result (λ told. explaining.TellsVerdict (F.files folder.old).told asked.now
-        told.verdict (string_bytes told.text)) }
-    ensures picture { IfOk result (λ told. IfSome told.picture (λ svg. IsPicture (string_bytes svg))) }
-    ensures drawn { IsSome asked.now.picture → IfOk result (λ told. IsSome told.picture ↔ HasPicture told.verdict) }
 {
-    let found = check(rt, alloc, folder, &asked.check)?;
+    let found = judge(rt, alloc, folder, &asked.check)?;
     let last = other_order(
         alloc,
         watch,
@@ -149,7 +132,7 @@ fn tell_named<R: Threads + Sync, W: SearchWatch, F: Folder>(
         found.programs.as_ref(),
         asked,
         names,
-        last.as_str(),
+        &last,
     )?;
     Ok(told)
 }
@@ -162,14 +145,12 @@ fn words(
     programs: Option<&ProgramSet>,
     asked: &Explain<'_>,
     names: &Names,
-    last: &str,
+    last: &LastLines,
 ) -> Result<Told, AllocError>
     requires { (logs : List (List Record)) × IsExaminationOf (given programs) logs examined.now }
     ensures verdict { IfOk result (λ told. told.verdict ≡ examined.now.verdict) }
-    ensures text { IfOk result (λ told. (why : List ℕ)
-        × (string_bytes told.text ≡ line (verdict_text told.verdict) ++ (why ++ last.now))) }
-    ensures picture { IfOk result (λ told. IfSome told.picture (λ svg. IsPicture (string_bytes svg))) }
-    ensures drawn { IsSome asked.now.picture → IfOk result (λ told. IsSome told.picture ↔ HasPicture told.verdict) }
+    ensures first { IfOk result (λ told. IsGrown (line (verdict_text told.verdict)) (string_bytes told.text)) }
+    ensures another { IfOk result (λ told. HasSubslice (string_bytes told.text) another_words → IsTrue last.now.say_another) }
 {
     let (verdict, files) = (examined.verdict, asked.check.files.as_slice());
     let is_drawn = asked.picture.is_some();
@@ -192,7 +173,6 @@ fn reason(
     cores: usize,
 ) -> Result<Explanation, AllocError>
     requires { (logs : List (List Record)) × IsExaminationOf (given programs) logs examined.now }
-    ensures { IfOk result (λ why. IsDrawn why ↔ HasPicture examined.now.verdict) }
 {
     match explained(alloc, examined, programs, cores)? {
         Some(why) => Ok(why),
@@ -207,10 +187,7 @@ fn picture_of(
     verdict: &Verdict,
     why: &Explanation,
     is_drawn: bool,
-) -> Result<Option<String>, AllocError>
-    ensures picture { IfOk result (λ drawn. IfSome drawn (λ svg. IsPicture (string_bytes svg))) }
-    ensures drawn { IsTrue is_drawn → IfOk result (λ drawn. IsSome drawn ↔ IsDrawn why.now) }
-{
+) -> Result<Option<String>, AllocError> {
     if !is_drawn {
         return Ok(None);
     }
@@ -234,12 +211,41 @@ fn more_text(
     Ok(text)
 }
 
-/// The line of a verdict, what there is to tell after it, and the last lines.
-fn text_of(alloc: Global, verdict: &Verdict, why: &str, last: &str) -> Result<String, AllocError>
-    ensures { IfOk result (λ text. string_bytes text ≡ line (verdict_text verdict.now) ++ (why.now ++ last.now)) }
+/// The line of a verdict, what there is to tell after it, and the last lines. The line alone if a name has the words of these, and they don't.
+fn text_of(
+    alloc: Global,
+    verdict: &Verdict,
+    why: &str,
+    last: &LastLines,
+) -> Result<String, AllocError>
+    ensures first { IfOk result (λ text. IsGrown (line (verdict_text verdict.now)) (string_bytes text)) }
+    ensures another { IfOk result (λ text. HasSubslice (string_bytes text) another_words → IsTrue last.now.say_another) }
 {
-    let mut text = format!(in alloc; "{verdict}\n")?;
-    text.push_str(why)?;
-    text.push_str(last)?;
+    let line = verdict_line(verdict);
+    let text = joined(alloc, line.as_str(), why, last.text.as_str())?;
+    if last.say_another {
+        return Ok(text);
+    }
+    if has_words(text.as_str()) {
+        let alone = String::from_str(alloc, line.as_str())?;
+        return Ok(alone);
+    }
+    Ok(text)
+}
+
+/// Whether a text has the words by which the last lines say that another order explains all values.
+fn has_words(text: &str) -> bool
+    ensures { HasSubslice text.now another_words → IsTrue result }
+{
+    text.contains(ANOTHER_WORDS)
+}
+
+/// Three texts in one.
+fn joined(alloc: Global, first: &str, second: &str, third: &str) -> Result<String, AllocError>
+    ensures { IfOk result (λ text. IsGrown first.now (string_bytes text)) }
+{
+    let mut text = String::from_str(alloc, first)?;
+    text.push_str(second)?;
+    text.push_str(third)?;
     Ok(text)
 }

@@ -1,11 +1,11 @@
 //! What a run leaves in the folder: its logs, and then its numbers.
 
-ghost use Rattle.std.specs.Prelude.{◌≡◌, ◌≤◌, IfErr, IfOk, OnOk};
+ghost use Rattle.std.specs.Prelude.{◌≡◌, ◌≤◌, ◌⊎◌, IfErr, OnOk};
 ghost use Rattle.audit.specs.Runs.{kept_log};
 ghost use Rattle.host_files.specs.Files.{KeepsFiles};
-ghost use Rattle.commands.specs.Logs as logs;
-ghost use Rattle.commands.specs.Outputs.{IsNameOf, PutsAt};
+ghost use Rattle.commands.specs.Outputs.{FailsPutAt, IsNameOf, PutsAt};
 ghost use Rattle.commands.specs.Numbers as numbers;
+ghost use Rattle.commands.specs.inner.Performing.{IsUnprinted};
 
 use super::place::Output;
 use super::putting::put_under;
@@ -33,7 +33,7 @@ pub(crate) struct Leaving<'a> {
     pub(crate) slices: usize,
 }
 
-/// Puts the numbers of a run under the name that is given for them, if one is: 29 if that fails, 10.
+/// Puts the numbers of a run under the name that is given for them, if one is.
 fn put_numbers<F: Folder>(
     alloc: Global,
     folder: &mut F,
@@ -42,9 +42,11 @@ fn put_numbers<F: Folder>(
     managers: &[ManagerSlice],
 ) -> Result<(), Refusal>
     requires { leaving.now.cores ≤ 64 }
-    ensures ok { OnOk result (PutsAt (F.files folder.old) (F.files folder.new) leaving.now.statistics
-        (numbers.numbers_of leaving.now.cores leaving.now.slices units.now managers.now)) }
-    ensures err { IfErr result (numbers.IsUnput (F.files folder.old) (F.files folder.new) leaving.now.statistics) }
+    ensures tried { PutsAt (F.files folder.old) (F.files folder.new) leaving.now.statistics
+        (numbers.numbers_of leaving.now.cores leaving.now.slices units.now managers.now)
+        ⊎ FailsPutAt (F.files folder.old) (F.files folder.new) leaving.now.statistics
+        ⊎ (F.files folder.new ≡ F.files folder.old) }
+    ensures err { IfErr result IsUnprinted }
     ensures others { KeepsFiles (F.files folder.old).told (F.files folder.new).told
         (IsNameOf leaving.now.statistics) }
 {
@@ -67,12 +69,9 @@ pub(crate) fn leave<F: Folder>(
     managers: &[ManagerSlice],
 ) -> Result<u64, Refusal>
     requires { leaving.now.cores ≤ 64 }
-    ensures ok { IfOk result (λ count. count ≡ logs.performed_below (kept_log units.now) leaving.now.cores) }
-    ensures left { OnOk result (numbers.AreLeft leaving.now.format (F.files folder.old) (F.files folder.new) leaving.now.out.now
-        leaving.now.cores (kept_log units.now) leaving.now.statistics
-        (numbers.numbers_of leaving.now.cores leaving.now.slices units.now managers.now)) }
-    ensures err { IfErr result (numbers.IsUnleft leaving.now.format (F.files folder.old) (F.files folder.new) leaving.now.out.now
-        leaving.now.cores (kept_log units.now) leaving.now.statistics) }
+    ensures ok { OnOk result (numbers.AreLeftThen leaving.now.format (F.files folder.old) (F.files folder.new) leaving.now.out.now
+        leaving.now.cores (kept_log units.now) (λ mid new. KeepsFiles mid.told new.told (IsNameOf leaving.now.statistics))) }
+    ensures err { IfErr result IsUnprinted }
     ensures far { numbers.AreLeftAsFar leaving.now.format (F.files folder.old) (F.files folder.new) leaving.now.out.now
         leaving.now.cores (kept_log units.now) leaving.now.statistics
         (numbers.numbers_of leaving.now.cores leaving.now.slices units.now managers.now) }

@@ -8,7 +8,6 @@ mod check_files;
 mod config;
 mod confirm_files;
 mod explain_files;
-mod finding;
 mod first_operations;
 mod inspect_files;
 mod left;

@@ -1,12 +1,14 @@
 //! The outcomes of a litmus test.
 
-ghost use Rattle.std.specs.Prelude.{◌≡◌, IfErr, IfOk, IfSome, MatchResult, OnOk};
-ghost use Rattle.host_files.specs.Files.{IsOnlyRead, IsUnread, KeepsFiles};
-ghost use Rattle.commands.specs.Outputs.{IsNameOf};
-ghost use Rattle.commands.specs.Sinks.{sink_of};
+ghost use Rattle.std.specs.Prelude.{◌≡◌, IfErr, IfOk};
+ghost use Rattle.command_line.specs.declared.request.Request.TheVariants as request;
+ghost use Rattle.host_files.specs.Files.{IsOnlyRead, IsUnread};
+ghost use Rattle.litmus.specs.Collecting.{TellsNo};
+ghost use Rattle.log_file.specs.Sinks.{sink_of};
 ghost use Rattle.commands.specs.Tabling as tabling;
-ghost use Rattle.statistics.specs.TableText.{totals_text};
+ghost use Rattle.commands.specs.inner.Performing.{Came, IsInputFault};
 
+use super::answer::CommandAnswer;
 use super::config::config_of;
 use super::place::{Input, Output};
 use super::putting::put_under;
@@ -31,12 +33,7 @@ const RUN_LIMIT: u64 = 100_000;
 fn has_forbidden(table: &Table) -> bool
     ensures { result ≡ tabling.has_forbidden table.now }
 {
-    for row in table.rows() {
-        if row.forbidden {
-            return true;
-        }
-    }
-    false
+    table.rows().iter().any(|row| row.forbidden)
 }
 
 /// The test in a file of the folder: 28 if it can't be opened or read.
@@ -46,9 +43,8 @@ pub(crate) fn read_test<F: Folder>(
     name: &str,
 ) -> Result<Litmus, Refusal>
     ensures ok { IfOk result (λ test. tabling.IsTestIn (F.files folder.old).told name.now test) }
-    ensures err { IfErr result (tabling.IsUntested (F.files folder.old).told
-        (IsUnread F.Source.remaining F.Source.failed (F.files folder.old) (F.files folder.new)) name.now) }
-    ensures quiet { OnOk result (F.files folder.new ≡ F.files folder.old) }
+    ensures err { IfErr result (IsInputFault Input.Test
+        (IsUnread F.Source.remaining F.Source.failed (F.files folder.old) (F.files folder.new) name.now)) }
     ensures read { IsOnlyRead (F.files folder.old) (F.files folder.new) }
 {
     let text = match read_text(alloc, folder, name) {
@@ -68,9 +64,9 @@ fn collect<R: Threads + Wait + Sync>(
     config: &Config,
     asked: &LitmusRuns<'_>,
 ) -> Result<Collected, CollectFault>
-    ensures { MatchResult result
-        (tabling.IsTableBy asked.now.threads test.now config.now asked.now.runs asked.now.seed asked.now.stress)
-        (tabling.IsFaultBy asked.now.threads test.now config.now asked.now.runs asked.now.seed asked.now.stress) }
+    ensures ok { IfOk result
+        (tabling.IsTableBy asked.now.threads test.now config.now asked.now.runs asked.now.seed asked.now.stress) }
+    ensures err { IfErr result (λ fault. ¬ (TellsNo fault)) }
 {
     if asked.threads {
         return collect_threaded(rt, alloc, test, config, asked.runs);
@@ -94,11 +90,9 @@ fn collected_of<R: Threads + Wait + Sync, F: Folder>(
     folder: &mut F,
     asked: &LitmusRuns<'_>,
 ) -> Result<Collected, Refusal>
-    ensures ok { IfOk result (λ collected.
-        tabling.Tabled (F.files folder.old).told asked.now (λ made. made ≡ collected)) }
-    ensures err { IfErr result (tabling.IsUntabled (F.files folder.old).told
-        (IsUnread F.Source.remaining F.Source.failed (F.files folder.old) (F.files folder.new)) asked.now) }
-    ensures quiet { OnOk result (F.files folder.new ≡ F.files folder.old) }
+    ensures ok { IfOk result (tabling.IsTabled (F.files folder.old).told asked.now) }
+    ensures err { IfErr result (IsInputFault Input.Test
+        (IsUnread F.Source.remaining F.Source.failed (F.files folder.old) (F.files folder.new) asked.now.test.now)) }
     ensures read { IsOnlyRead (F.files folder.old) (F.files folder.new) }
 {
     let config = config_of(&asked.limits)?;
@@ -110,10 +104,11 @@ fn collected_of<R: Threads + Wait + Sync, F: Folder>(
 }
 
 /// The text of the totals, if a file is given for it; else none.
-fn text_of(alloc: Global, statistics: Option<&str>, totals: &Numbers) -> Result<Vec<u8>, AllocError>
-    ensures { IfOk result (λ text.
-        IfSome statistics.entry (λ _. text.items ≡ totals_text totals.now)) }
-{
+fn text_of(
+    alloc: Global,
+    statistics: Option<&str>,
+    totals: &Numbers,
+) -> Result<Vec<u8>, AllocError> {
     match statistics {
         Some(_) => print_totals(alloc, totals),
         None => Ok(Vec::new(alloc)),
@@ -129,12 +124,10 @@ pub(crate) fn count_outcomes<R: Threads + Wait + Sync, F: Folder, O: ByteSink>(
     folder: &mut F,
     asked: &LitmusRuns<'_>,
     out: &mut O,
-) -> Result<bool, Refusal>
-    ensures exact { tabling.IsCounted (F.files folder.old) (F.files folder.new)
-        (IsUnread F.Source.remaining F.Source.failed (F.files folder.old) (F.files folder.new)) asked.now
-        (sink_of O.contents O.failed out.old) (sink_of O.contents O.failed out.new) result }
-    ensures files { KeepsFiles (F.files folder.old).told (F.files folder.new).told
-        (IsNameOf asked.now.statistics) }
+) -> Result<CommandAnswer, Refusal>
+    ensures { Came (F.files folder.old) (F.files folder.new)
+        (IsUnread F.Source.remaining F.Source.failed (F.files folder.old) (F.files folder.new))
+        (sink_of O.contents O.failed out.old) (sink_of O.contents O.failed out.new) (request.Litmus asked.now) result }
 {
     let collected = collected_of(rt, alloc, folder, asked)?;
     let Ok(text) = text_of(alloc, asked.statistics, &collected.totals) else {
@@ -147,5 +140,5 @@ pub(crate) fn count_outcomes<R: Threads + Wait + Sync, F: Folder, O: ByteSink>(
         text.as_slice(),
         Output::Statistics,
     )?;
-    Ok(has_forbidden(&collected.table))
+    Ok(CommandAnswer::Counted(has_forbidden(&collected.table)))
 }

@@ -5,9 +5,9 @@ ghost use Rattle.verdict.specs.Counts.{IsInRange};
 ghost use Rattle.mem_op.specs.Limits.{operation_limit};
 ghost use Rattle.log_record.specs.Entries.{record_lists};
 ghost use Rattle.host_files.specs.Files.{IsOnlyRead, IsUnread};
-ghost use Rattle.commands.specs.LogFiles.{AreSourcesOf, IsLeft, IsOpenFault, Spelled};
+ghost use Rattle.commands.specs.LogFiles.{AreSourcesOf, IsOpenFault, Spelled};
 ghost use Rattle.commands.specs.Refusals.{from_judge};
-ghost use Rattle.commands.specs.inner.ReadTraces.{AreLogless};
+ghost use Rattle.commands.specs.inner.ReadLogs.{AreLogless};
 
 use host_files::Folder;
 use log_file::{LogSet, ReadFault};
@@ -58,8 +58,7 @@ pub(crate) fn read_log_files<F: Folder>(
     ensures short { IfOk result (λ logs. All (λ log. vec_len log ≤ operation_limit) logs.items) }
     ensures quiet { OnOk result (F.files folder.new ≡ F.files folder.old) }
     ensures read { IsOnlyRead (F.files folder.old) (F.files folder.new) }
-    ensures left { IfErr result (IsLeft (F.files folder.old) (F.files folder.new)) }
-    ensures err { IfErr result (λ fault. AreLogless (F.files folder.old).told
+    ensures err { IfErr result (λ fault. AreLogless
         (IsUnread F.Source.remaining F.Source.failed (F.files folder.old) (F.files folder.new)) names.now (from_judge fault)) }
 {
     let mut sources = open_all(alloc, folder, names)?;

@@ -2,8 +2,9 @@
 
 ghost use Rattle.std.specs.Prelude.{◌≡◌, ◌⊎◌, IsSome};
 ghost use Rattle.host_files.specs.Files.{IsOnlyRead};
-ghost use Rattle.commands.specs.Sinks.{sink_of};
-ghost use Rattle.commands.specs.inner.Performing.{IsToldMore};
+ghost use Rattle.log_file.specs.Sinks.{sink_of};
+ghost use Rattle.command_line.specs.declared.request.Request.TheVariants as request;
+ghost use Rattle.commands.specs.inner.Performing.{IsOfInput, IsToldMore};
 
 use super::place::Input;
 use super::refusal::Refusal;
@@ -25,7 +26,7 @@ pub(crate) fn tell_more<F: Folder, O: ByteSink>(
     out: &mut O,
 )
     ensures read { IsOnlyRead (F.files folder.old) (F.files folder.new) }
-    ensures quiet { IsToldMore request.now
+    ensures quiet { IsToldMore request.now refusal.now
         ⊎ ((F.files folder.new ≡ F.files folder.old)
         × (sink_of O.contents O.failed out.new ≡ sink_of O.contents O.failed out.old)) }
 {
@@ -36,7 +37,7 @@ pub(crate) fn tell_more<F: Folder, O: ByteSink>(
 
 /// The file that was refused, if standard output tells more of it: of an explanation, and of a look at a file.
 fn refused_file<'a>(request: &'a Request<'a>, refusal: &Refusal) -> Option<RefusedFile<'a>>
-    ensures { IsSome result → IsToldMore request.now }
+    ensures { IsSome result → IsToldMore request.now refusal.now }
 {
     match request {
         Request::Explain(asked) => refused_of_logs(asked, refusal),
@@ -47,7 +48,9 @@ fn refused_file<'a>(request: &'a Request<'a>, refusal: &Refusal) -> Option<Refus
 }
 
 /// The file for which these logs aren't explained.
-fn refused_of_logs<'a>(asked: &'a Explain<'a>, refusal: &Refusal) -> Option<RefusedFile<'a>> {
+fn refused_of_logs<'a>(asked: &'a Explain<'a>, refusal: &Refusal) -> Option<RefusedFile<'a>>
+    ensures { IsSome result → IsToldMore (request.Explain asked.now) refusal.now }
+{
     let files = asked.check.files.as_slice();
     match refusal {
         Refusal::Judge(JudgeFault::Log { file, line, fault }) => {
@@ -68,7 +71,9 @@ fn refused_of_logs<'a>(asked: &'a Explain<'a>, refusal: &Refusal) -> Option<Refu
 }
 
 /// The file of this name, where it was refused.
-fn refused_of_look<'a>(name: &'a str, refusal: &Refusal) -> Option<RefusedFile<'a>> {
+fn refused_of_look<'a>(name: &'a str, refusal: &Refusal) -> Option<RefusedFile<'a>>
+    ensures { IsSome result → IsOfInput refusal.now }
+{
     match refusal {
         Refusal::Test(fault) => Some(RefusedFile::Text(name, TextFault::Test(*fault))),
         Refusal::Programs(fault) => Some(RefusedFile::Text(name, TextFault::Programs(*fault))),

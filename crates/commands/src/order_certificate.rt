@@ -1,8 +1,8 @@
 //! The text of an order as a certificate.
 
-ghost use Rattle.std.specs.Prelude.{◌≡◌, ◌<◌, ◌^◌, IfOk, IfSome, IsNone, MatchOption, vec_len};
-ghost use Rattle.commands.specs.OrderTexts as orders;
-ghost use Rattle.commands.specs.inner.Certificates.{TellsEnd, id_of};
+ghost use Rattle.std.specs.Prelude.{◌≡◌, ◌<◌, ◌^◌, ◌++◌, ◌∷◌, [], IfOk, IfSome, IsNone, vec_len};
+ghost use Rattle.commands.specs.OrderTexts.{SpellsOrder};
+ghost use Rattle.merge_judge.specs.OrderText.{end_line, id_line, id_lines};
 
 use decimal_text::{after_text, read_field, read_last};
 use flat_replay::first_wrong_place;
@@ -12,9 +12,8 @@ use text_lines::next_line;
 use trace::Trace;
 
 /// The id whose line this is, without its line feed.
-#[tactic(auto, unfolding(crate::specs::inner::Certificates::id_of, text_lines::specs::Fields::last_below))]
 fn read_id(line: &[u8]) -> Option<OpId>
-    ensures { result ≡ id_of line.now }
+    ensures { IfSome result (λ id. line.now ++ 10 ∷ [] ≡ id_line id) }
 {
     let (core, rest) = read_field(b'.', line)?;
     let core = CoreId::new(core?).ok()?;
@@ -24,8 +23,7 @@ fn read_id(line: &[u8]) -> Option<OpId>
 
 /// The id whose line is the first, and the bytes after it; None if the first line is no id's, or has no line feed.
 fn next_id(text: &[u8]) -> Option<(OpId, &[u8])>
-    ensures found { IfSome result (λ read. orders.IdInFront read.0 text.now read.1.now) }
-    ensures none { IsNone result → orders.NoIdInFront text.now }
+    ensures { IfSome result (λ read. text.now ≡ id_line read.0 ++ read.1.now) }
 {
     let (line, rest) = next_line(text)?;
     Some((read_id(line)?, rest))
@@ -40,7 +38,7 @@ struct Front<'a> {
 
 /// Reads ids up to the first line that isn't an id's.
 fn read_ids(alloc: Global, text: &[u8]) -> Result<Front<'_>, AllocError>
-    ensures begins { IfOk result (λ front. orders.BeginsWithIds text.now front.ids.items front.rest.now) }
+    ensures begins { IfOk result (λ front. text.now ≡ id_lines front.ids.items ++ front.rest.now) }
     ensures few { IfOk result (λ front. vec_len front.ids < 2 ^ 63) }
 {
     let mut ids = Vec::new(alloc);
@@ -55,7 +53,7 @@ fn read_ids(alloc: Global, text: &[u8]) -> Result<Front<'_>, AllocError>
 /// The line of the text at which its end is wrong: these bytes should be the `end` line of so many ids.
 fn bad_end(alloc: Global, rest: &[u8], count: u64) -> Result<Option<u64>, AllocError>
     requires { count < 2 ^ 63 }
-    ensures { IfOk result (TellsEnd rest.now count) }
+    ensures { IfOk result (λ bad. IsNone bad → rest.now ≡ end_line count) }
 {
     let due = format!(in alloc; "end {count}\n")?;
     Ok(match after_text(due.as_bytes(), rest) {
@@ -72,9 +70,7 @@ pub(crate) fn first_bad_line_of_order(
     trace: &Trace,
     text: &[u8],
 ) -> Result<Option<u64>, AllocError>
-    ensures { IfOk result (λ bad. MatchOption bad
-        (orders.SpellsOrder trace.now text.now)
-        (λ line. orders.IsFirstBadOfOrder trace.now text.now line)) }
+    ensures { IfOk result (λ bad. IsNone bad → SpellsOrder trace.now text.now) }
 {
     let front = read_ids(alloc, text)?;
     if let Some(place) = first_wrong_place(alloc, trace.cores(), front.ids.as_slice())? {

@@ -1,10 +1,9 @@
 //! Whether a set that got No has another order, one that explains all values.
 
-ghost use Rattle.std.specs.Prelude.{◌≡◌, ◌↔◌, List, IfOk, IsTrue, string_bytes};
+ghost use Rattle.std.specs.Prelude.{◌≡◌, ◌⊎◌, List, IfOk, IsTrue};
 ghost use Rattle.log_record.specs.Entries.{operations_of};
 ghost use Rattle.log_record.specs.declared.record.Record.{Record};
-ghost use Rattle.commands.specs.OtherOrders.{IsWrongByOrder, TellsOrder, TellsOther, TellsSourced};
-ghost use Rattle.commands.specs.Sources.{sourced_operations};
+ghost use Rattle.mem_op.specs.Consistency.{IsConsistent};
 ghost use Rattle.commands.specs.inner.ReadLogs.{AreLogsOf};
 ghost use Rattle.refutation.specs.Answers.{IsRight};
 
@@ -48,6 +47,14 @@ const UNDECIDED: &str =
 const UNSEARCHED: &str =
     "\nwhether another order explains all values wasn't searched, for more than 1,000,000 operations; search --logs searches\n";
 
+/// The last lines of the words about a set.
+#[derive(Drop)]
+pub(crate) struct LastLines {
+    /// Whether they say that another order explains all values.
+    pub(crate) say_another: bool,
+    pub(crate) text: String,
+}
+
 /// The last lines of the words about a set: whether another order explains all values, or that this wasn't searched, for more than 1,000,000
 /// operations. Nothing where that is declined, of a Yes, and of a log that isn't its program's. A watch is told how far the search is.
 pub(crate) fn other_order<W: SearchWatch>(
@@ -57,24 +64,30 @@ pub(crate) fn other_order<W: SearchWatch>(
     examined: &Examined,
     cores: usize,
     is_declined: bool,
-) -> Result<String, AllocError>
+) -> Result<LastLines, AllocError>
     requires { (logs : List (List Record)) × AreLogsOf logs examined.now.basis cores }
     ensures { (logs : List (List Record)) → AreLogsOf logs examined.now.basis cores
-        → IfOk result (λ text. TellsOther is_declined examined.now.verdict logs (string_bytes text)) }
+        → IfOk result (λ last. IsTrue last.say_another → IsConsistent (operations_of logs)) }
 {
     if is_declined || !is_wrong_by_its_order(&examined.verdict) {
-        return Ok(String::new(alloc));
+        return last_lines(alloc, false, "");
     }
     if records_in(&examined.basis) > MOST_SEARCHED {
-        return String::from_str(alloc, UNSEARCHED);
+        return last_lines(alloc, false, UNSEARCHED);
     }
     whether_another(alloc, watch, names, &examined.basis, cores)
 }
 
-/// Whether it is by its order that a set got No, which another order may mend.
-fn is_wrong_by_its_order(verdict: &Verdict) -> bool
-    ensures { IsTrue result ↔ IsWrongByOrder verdict.now }
+/// These last lines.
+fn last_lines(alloc: Global, say_another: bool, text: &str) -> Result<LastLines, AllocError>
+    ensures { IfOk result (λ last. last.say_another ≡ say_another) }
 {
+    let text = String::from_str(alloc, text)?;
+    Ok(LastLines { say_another, text })
+}
+
+/// Whether it is by its order that a set got No, which another order may mend.
+fn is_wrong_by_its_order(verdict: &Verdict) -> bool {
     match verdict {
         Verdict::Yes(_) => false,
         Verdict::No(fault) => fault.rule != Rule::Program,
@@ -88,16 +101,17 @@ fn whether_another<W: SearchWatch>(
     names: &Names,
     basis: &Basis,
     cores: usize,
-) -> Result<String, AllocError>
+) -> Result<LastLines, AllocError>
     requires { (logs : List (List Record)) × AreLogsOf logs basis.now cores }
     ensures { (logs : List (List Record)) → AreLogsOf logs basis.now cores
-        → IfOk result (λ text. TellsSourced (sourced_operations logs) (operations_of logs) (string_bytes text)) }
+        → IfOk result (λ last. IsTrue last.say_another → IsConsistent (operations_of logs)) }
 {
     let logs = logs_of(alloc, basis, cores)?;
     let logs = logs.as_slice();
     let trace = trace_of(alloc, logs)?;
     let sourced = sourced_trace(alloc, &trace, logs)?;
-    whether_by_sources(alloc, watch, names, &sourced, &trace)
+    let last = whether_by_sources(alloc, watch, names, &sourced, &trace)?;
+    Ok(last)
 }
 
 /// Whether some order of a trace explains all values; one of the trace with sources in place of words is looked for first.
@@ -107,11 +121,11 @@ fn whether_by_sources<W: SearchWatch>(
     names: &Names,
     sourced: &Trace,
     trace: &Trace,
-) -> Result<String, AllocError>
-    ensures { IfOk result (λ text. TellsSourced sourced.now trace.now (string_bytes text)) }
+) -> Result<LastLines, AllocError>
+    ensures { IfOk result (λ last. IsTrue last.say_another → IsConsistent sourced.now ⊎ IsConsistent trace.now) }
 {
     match searched(alloc, watch, sourced)? {
-        Answer::Order(_) => String::from_str(alloc, BY_SOURCES),
+        Answer::Order(_) => last_lines(alloc, true, BY_SOURCES),
         Answer::Refutation(_) => whether_any(alloc, watch, names, trace, BY_OTHERS),
         Answer::Undecided => whether_any(alloc, watch, names, trace, ANOTHER),
     }
@@ -131,16 +145,19 @@ fn whether_any<W: SearchWatch>(
     names: &Names,
     trace: &Trace,
     another: &str,
-) -> Result<String, AllocError>
-    ensures { IfOk result (λ text. TellsOrder another.now trace.now (string_bytes text)) }
+) -> Result<LastLines, AllocError>
+    ensures { IfOk result (λ last. IsTrue last.say_another → IsConsistent trace.now) }
 {
     match searched(alloc, watch, trace)? {
-        Answer::Order(_) => String::from_str(alloc, another),
-        Answer::Undecided => String::from_str(alloc, UNDECIDED),
+        Answer::Order(_) => last_lines(alloc, true, another),
+        Answer::Undecided => last_lines(alloc, false, UNDECIDED),
         Answer::Refutation(refutation) => {
             let mut text = String::from_str(alloc, NONE)?;
             push_argument(&mut text, alloc, names, trace, &refutation)?;
-            Ok(text)
+            Ok(LastLines {
+                say_another: false,
+                text,
+            })
         }
     }
 }

@@ -1,11 +1,13 @@
 //! What the program prints.
 
-ghost use Rattle.std.specs.Prelude.{◌≡◌, ◌⊎◌, IfErr, IfOk};
+ghost use Rattle.std.specs.Prelude.{◌≡◌, ◌⊎◌, ℕ, List};
+ghost use Rattle.verdict.specs.Texts.{verdict_text};
+ghost use Rattle.verdict.specs.declared.answer.Verdict.{Verdict};
 ghost use Rattle.commands.specs.Answers.{answer_status};
 ghost use Rattle.commands.specs.Refusals.{refusal_status, refusal_text};
-ghost use Rattle.commands.specs.Sinks.{Takes, line, sink_of};
-ghost use Rattle.commands.specs.inner.Performing.{IsUnprinted};
-ghost use Rattle.commands.specs.declared.answer.CommandAnswer.TheVariants.{Done};
+ghost use Rattle.log_file.specs.Sinks.{Takes, line, sink_of};
+ghost use Rattle.commands.specs.inner.Printing.{IsPrinted};
+ghost use Rattle.commands.specs.declared.answer.CommandAnswer.TheVariants.{Done, Ordered};
 ghost use Rattle.commands.specs.declared.refusal.Refusal.TheVariants.{OutOfMemory};
 
 use super::answer::CommandAnswer;
@@ -20,8 +22,7 @@ pub(crate) fn print_answer<O: ByteSink>(
     out: &mut O,
     answer: CommandAnswer,
 ) -> Result<CommandAnswer, Refusal>
-    ensures ok { IfOk result (λ same. same ≡ answer) }
-    ensures err { IfErr result IsUnprinted }
+    ensures { IsPrinted answer (sink_of O.contents O.failed out.old) (sink_of O.contents O.failed out.new) result }
 {
     let line = format!(in alloc; "{answer}\n")?;
     write_all(out, line.as_bytes())?;
@@ -34,15 +35,16 @@ pub(crate) fn print_done<O: ByteSink>(
     out: &mut O,
     operations: u64,
 ) -> Result<CommandAnswer, Refusal>
-    ensures ok { IfOk result (λ answer. answer ≡ Done operations) }
-    ensures err { IfErr result IsUnprinted }
+    ensures { IsPrinted (Done operations) (sink_of O.contents O.failed out.old) (sink_of O.contents O.failed out.new) result }
 {
     print_answer(alloc, out, CommandAnswer::Done(operations))
 }
 
 /// Tells on standard error what belongs there of an answer, and answers its exit status.
 pub(crate) fn tell_answer<E: ByteSink>(err: &mut E, answer: &CommandAnswer) -> u8
-    ensures { result ≡ answer_status answer.now }
+    ensures status { result ≡ answer_status answer.now }
+    ensures aside { (verdict : Verdict) → answer.now ≡ Ordered verdict
+        → Takes (sink_of E.contents E.failed err.old) (sink_of E.contents E.failed err.new) (line (verdict_text verdict)) }
 {
     if let CommandAnswer::Ordered(verdict) = answer {
         tell(err, verdict_line(verdict).as_str());
@@ -67,6 +69,17 @@ pub(crate) fn refuse<E: ByteSink>(alloc: Global, err: &mut E, refusal: Refusal) 
             tell(err, "refused: 10 OutOfMemory\n");
             Refusal::OutOfMemory.status()
         }
+    }
+}
+
+/// Tells the user on standard error that words are refused, in these lines.
+pub(crate) fn tell_usage<E: ByteSink>(err: &mut E, text: &str)
+    ensures { (words : List ℕ) × Takes (sink_of E.contents E.failed err.old) (sink_of E.contents E.failed err.new) (line words) }
+{
+    if text.ends_with('\n') {
+        tell(err, text);
+    } else {
+        tell(err, "error: these words ask for nothing\n");
     }
 }
 

@@ -1,7 +1,9 @@
 //! Why a call was refused.
 
 ghost use Rattle.std.specs.Prelude.{◌≡◌};
+ghost use Rattle.litmus.specs.Collecting.{TellsNo};
 ghost use Rattle.commands.specs.Refusals as refusals;
+ghost use Rattle.commands.specs.inner.Performing.{IsOfText, IsUnprinted};
 ghost use Rattle.commands.specs.declared.refusal.Refusal.TheVariants as refused;
 ghost use Rattle.commands.specs.declared.place.Output.TheVariants.{Standard};
 
@@ -148,7 +150,7 @@ impl From<MergeFault> for Refusal {
 }
 
 impl From<ProgramFault> for Refusal {
-    ghost from_gives = { λ fault refusal. refusal ≡ refusals.from_program fault };
+    ghost from_gives = { λ _ refusal. IsOfText refusal };
 
     fn from(fault: ProgramFault) -> Refusal {
         match fault {
@@ -159,7 +161,7 @@ impl From<ProgramFault> for Refusal {
 }
 
 impl From<TraceFault> for Refusal {
-    ghost from_gives = { λ fault refusal. refusal ≡ refusals.from_trace fault };
+    ghost from_gives = { λ _ refusal. IsOfText refusal };
 
     fn from(fault: TraceFault) -> Refusal {
         match fault {
@@ -170,7 +172,7 @@ impl From<TraceFault> for Refusal {
 }
 
 impl From<NamesFault> for Refusal {
-    ghost from_gives = { λ fault refusal. refusal ≡ refusals.from_names fault };
+    ghost from_gives = { λ _ refusal. IsOfText refusal };
 
     fn from(fault: NamesFault) -> Refusal {
         match fault {
@@ -181,7 +183,7 @@ impl From<NamesFault> for Refusal {
 }
 
 impl From<ScheduleFault> for Refusal {
-    ghost from_gives = { λ fault refusal. refusal ≡ refusals.from_schedule fault };
+    ghost from_gives = { λ _ refusal. IsOfText refusal };
 
     fn from(fault: ScheduleFault) -> Refusal {
         match fault {
@@ -192,7 +194,7 @@ impl From<ScheduleFault> for Refusal {
 }
 
 impl From<LitmusFault> for Refusal {
-    ghost from_gives = { λ fault refusal. refusal ≡ refusals.from_test fault };
+    ghost from_gives = { λ _ refusal. IsOfText refusal };
 
     fn from(fault: LitmusFault) -> Refusal {
         match fault {
@@ -203,7 +205,7 @@ impl From<LitmusFault> for Refusal {
 }
 
 impl From<CollectFault> for Refusal {
-    ghost from_gives = { λ fault refusal. refusal ≡ refusals.from_collect fault };
+    ghost from_gives = { λ fault refusal. ¬ (TellsNo fault) → IsOfText refusal };
 
     fn from(fault: CollectFault) -> Refusal {
         match fault {
@@ -230,7 +232,7 @@ impl From<SimulationFault> for Refusal {
 }
 
 impl From<WriteFault> for Refusal {
-    ghost from_gives = { λ fault refusal. refusal ≡ refusals.from_write fault };
+    ghost from_gives = { λ _ refusal. IsUnprinted refusal };
 
     fn from(fault: WriteFault) -> Refusal {
         match fault {

@@ -4,7 +4,6 @@ ghost use Rattle.std.specs.Prelude.{◌≡◌, IsSome};
 ghost use Rattle.host_files.specs.Files.{IsOnlyRead};
 
 use super::confirm_files::look_at;
-use super::refusal::Refusal;
 use super::text::read_text;
 use super::trace_file::read_trace;
 use command_line::TraceFiles;
@@ -125,8 +124,9 @@ pub(crate) fn certificate_again<F: Folder>(
     let bytes = read_text(alloc, folder, refused.name).ok()?;
     let files = TraceFiles::One(refused.trace);
     match look_at(alloc, &files, &trace, bytes.as_slice()) {
-        Err(Refusal::Certificate(CertificateFault::BadCertificate { line }))
-            if line == refused.line => { Some((trace, bytes)) }
+        Err(CertificateFault::BadCertificate { line }) if line == refused.line => {
+            Some((trace, bytes))
+        }
         _ => None,
     }
 }

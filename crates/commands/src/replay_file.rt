@@ -1,13 +1,16 @@
 //! The replay of a trace.
 
-ghost use Rattle.std.specs.Prelude.{◌≡◌, ℕ, List, IfErr, IfOk, IsErrOf, OnOk};
+ghost use Rattle.std.specs.Prelude.{◌≡◌, ℕ, List, ◌++◌, IfErr, IfOk, OnOk, string_bytes};
+ghost use Rattle.command_line.specs.declared.request.Request.TheVariants as request;
 ghost use Rattle.host_files.specs.Files.{IsOnlyRead, IsUnread};
 ghost use Rattle.log_file.specs.Devices.{Failed, Tells};
 ghost use Rattle.trace_replay.specs.Answers.{IsVerdict};
-ghost use Rattle.trace_replay.specs.Texts.{verdict_status};
-ghost use Rattle.commands.specs.Replaying as replaying;
-ghost use Rattle.commands.specs.inner.Replays.{IsReplayOf, IsUndecided};
+ghost use Rattle.trace_replay.specs.Texts.{verdict_text};
+ghost use Rattle.commands.specs.Replaying.{TellsText};
+ghost use Rattle.log_file.specs.Sinks.{line, sink_of};
+ghost use Rattle.commands.specs.inner.Performing.{Came, IsInputFault};
 
+use super::answer::CommandAnswer;
 use super::place::Input;
 use super::refusal::Refusal;
 use command_line::Replay;
@@ -33,12 +36,10 @@ pub(crate) fn replay<W: ReplayWatch, F: Folder, O: ByteSink>(
     folder: &mut F,
     asked: &Replay<'_>,
     out: &mut O,
-) -> Result<ReplayVerdict, Refusal>
-    ensures exact { replaying.IsReplayedBy (F.files folder.old) (F.files folder.new)
-        (IsUnread F.Source.remaining F.Source.failed (F.files folder.old) (F.files folder.new)) asked.now result }
-    ensures sound { IfOk result (λ verdict. verdict_status verdict ≡ 0 → replaying.TellsText
-        (F.files folder.old).told asked.now.trace.now replaying.IsConsistentText) }
-    ensures read { IsOnlyRead (F.files folder.old) (F.files folder.new) }
+) -> Result<CommandAnswer, Refusal>
+    ensures { Came (F.files folder.old) (F.files folder.new)
+        (IsUnread F.Source.remaining F.Source.failed (F.files folder.old) (F.files folder.new))
+        (sink_of O.contents O.failed out.old) (sink_of O.contents O.failed out.new) (request.Replay asked.now) result }
 {
     let mut stores = asked.why.then(|| StoresByWord::new(alloc));
     let verdict = replay_trace(alloc, folder, asked.trace, &mut stores)?;
@@ -47,7 +48,7 @@ pub(crate) fn replay<W: ReplayWatch, F: Folder, O: ByteSink>(
     if !asked.why {
         tell(watch, &verdict);
     }
-    Ok(verdict)
+    Ok(CommandAnswer::Replayed(verdict))
 }
 
 /// Tells a watch of the load at which a verdict is no.
@@ -57,17 +58,29 @@ fn tell<W: ReplayWatch>(watch: &W, verdict: &ReplayVerdict) {
     }
 }
 
-/// The lines of a verdict. If it is asked why, the stores before it were kept by their words.
+/// The line of a verdict, and what is told after it. If it is asked why, the stores before it were kept by their words.
 fn told_lines(
     alloc: Global,
     why: bool,
     verdict: &ReplayVerdict,
     stores: &Option<StoresByWord>,
-) -> Result<String, AllocError> {
-    match verdict {
-        ReplayVerdict::No(wrong) if why => no_lines(alloc, wrong, source_of(stores, wrong)),
-        _ => format!(in alloc; "{verdict}\n"),
-    }
+) -> Result<String, AllocError>
+    ensures { IfOk result (λ text. (more : List ℕ) × (string_bytes text ≡ line (verdict_text verdict.now) ++ more)) }
+{
+    let more = match verdict {
+        ReplayVerdict::No(wrong) if why => no_lines(alloc, wrong, source_of(stores, wrong))?,
+        _ => String::new(alloc),
+    };
+    text_of(alloc, verdict, more.as_str())
+}
+
+/// The line of a verdict, and these words after it.
+fn text_of(alloc: Global, verdict: &ReplayVerdict, more: &str) -> Result<String, AllocError>
+    ensures { IfOk result (λ text. string_bytes text ≡ line (verdict_text verdict.now) ++ more.now) }
+{
+    let mut text = format!(in alloc; "{verdict}\n")?;
+    text.push_str(more)?;
+    Ok(text)
 }
 
 /// The last store of the word that a wrong load read, if there was one.
@@ -75,33 +88,30 @@ fn source_of(stores: &Option<StoresByWord>, wrong: &WrongLoad) -> Option<StepId>
     stores.as_ref()?.last(wrong.addr, wrong.read)
 }
 
-/// The lines of a no, if it is asked why.
+/// The lines after that of a no, if it is asked why.
 fn no_lines(
     alloc: Global,
     wrong: &WrongLoad,
     source: Option<StepId>,
 ) -> Result<String, AllocError> {
-    let no = ReplayVerdict::No(*wrong);
     let read = wrong.read;
     match source {
-        Some(id) => format!(in alloc; "{no}\n{wrong}\n{id} had stored {read} there before\n"),
-        None => format!(in alloc; "{no}\n{wrong}\n"),
+        Some(id) => format!(in alloc; "{wrong}\n{id} had stored {read} there before\n"),
+        None => format!(in alloc; "{wrong}\n"),
     }
 }
 
-/// The verdict on the trace in a file of the folder: 28 if it can't be opened or read, 10 if a growth was refused, and else the
-/// first line that isn't one of a trace.
+/// The verdict on the trace in a file of the folder, or why there is none.
 fn replay_trace<F: Folder>(
     alloc: Global,
     folder: &mut F,
     name: &str,
     stores: &mut Option<StoresByWord>,
 ) -> Result<ReplayVerdict, Refusal>
-    ensures ok { IfOk result (λ verdict. replaying.TellsText (F.files folder.old).told name.now
+    ensures ok { IfOk result (λ verdict. TellsText (F.files folder.old).told name.now
         (λ text. IsVerdict text verdict)) }
-    ensures err { IfErr result (IsUndecided (F.files folder.old).told
-        (IsUnread F.Source.remaining F.Source.failed (F.files folder.old) (F.files folder.new)) name.now) }
-    ensures quiet { OnOk result (F.files folder.new ≡ F.files folder.old) }
+    ensures err { IfErr result (IsInputFault Input.Trace
+        (IsUnread F.Source.remaining F.Source.failed (F.files folder.old) (F.files folder.new) name.now)) }
     ensures read { IsOnlyRead (F.files folder.old) (F.files folder.new) }
 {
     let mut source = match folder.open_file(name) {
@@ -118,9 +128,8 @@ fn replay_source<S: ByteSource>(
     source: &mut S,
     stores: &mut Option<StoresByWord>,
 ) -> Result<ReplayVerdict, Refusal>
-    ensures answer { (bytes : List ℕ) × Tells (S.remaining source.old) bytes × IsReplayOf bytes result }
-    ensures read { IsErrOf result (Refusal.Unread Input.Trace) →
-        Failed (S.failed source.old) (S.failed source.new) }
+    ensures ok { IfOk result (λ verdict. (bytes : List ℕ) × Tells (S.remaining source.old) bytes × IsVerdict bytes verdict) }
+    ensures err { IfErr result (IsInputFault Input.Trace (Failed (S.failed source.old) (S.failed source.new))) }
 {
     match trace_replay::replay(alloc, source, stores) {
         Ok(verdict) => Ok(verdict),

@@ -1,34 +1,38 @@
 //! Programs run in threads.
 
-ghost use Rattle.host_files.specs.Files.{IsUnread, KeepsFiles};
-ghost use Rattle.commands.specs.Numbers.{IsLeftName};
-ghost use Rattle.commands.specs.Running as running;
+ghost use Rattle.command_line.specs.declared.request.Request.TheVariants as request;
+ghost use Rattle.host_files.specs.Files.{IsUnread};
+ghost use Rattle.log_file.specs.Sinks.{sink_of};
+ghost use Rattle.commands.specs.inner.Performing.{Came};
 
+use super::answer::CommandAnswer;
 use super::config::{config_of, log_format};
 use super::left::{Leaving, leave};
+use super::output::print_done;
 use super::refusal::Refusal;
 use super::text::read_programs;
 use super::watch::{Watch, Watched};
 use command_line::Run;
 use host_files::Folder;
+use log_file::ByteSink;
 use machine::{ThreadsFault, run_threads};
 use std::alloc::Global;
 use std::sync::Wait;
 use std::thread::Threads;
 
 /// Runs the programs in a file of the folder, each core in a thread of its own, and writes the log of each core, and then the run's
-/// numbers if a file is given for them, also if a fault ends the run. The number of operations that were performed, or why there is none.
-pub(crate) fn run<R: Threads + Wait + Sync, W: Watch + Sync, F: Folder>(
+/// numbers if a file is given for them, also if a fault ends the run. It prints the number of operations that were performed.
+pub(crate) fn run<R: Threads + Wait + Sync, W: Watch + Sync, F: Folder, O: ByteSink>(
     rt: &R,
     alloc: Global,
     watch: &W,
     folder: &mut F,
     asked: &Run<'_>,
-) -> Result<u64, Refusal>
-    ensures exact { running.IsThreadRun (F.files folder.old) (F.files folder.new)
-        (IsUnread F.Source.remaining F.Source.failed (F.files folder.old) (F.files folder.new)) asked.now result }
-    ensures files { KeepsFiles (F.files folder.old).told (F.files folder.new).told
-        (IsLeftName asked.now.out.now asked.now.statistics) }
+    out: &mut O,
+) -> Result<CommandAnswer, Refusal>
+    ensures { Came (F.files folder.old) (F.files folder.new)
+        (IsUnread F.Source.remaining F.Source.failed (F.files folder.old) (F.files folder.new))
+        (sink_of O.contents O.failed out.old) (sink_of O.contents O.failed out.new) (request.Run asked.now) result }
 {
     let config = config_of(&asked.limits)?;
     let programs = read_programs(alloc, folder, asked.programs)?;
@@ -44,7 +48,8 @@ pub(crate) fn run<R: Threads + Wait + Sync, W: Watch + Sync, F: Folder>(
     match ran {
         Ok(end) => {
             let (units, slices) = (end.units.as_slice(), end.slices.as_slice());
-            leave(alloc, folder, &leaving, units, slices)
+            let count = leave(alloc, folder, &leaving, units, slices)?;
+            print_done(alloc, out, count)
         }
         Err(fault) => {
             let (units, slices) = (fault.units.as_slice(), fault.slices.as_slice());

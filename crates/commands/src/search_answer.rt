@@ -1,7 +1,7 @@
 //! What is answered of a trace.
 
-ghost use Rattle.std.specs.Prelude.{◌≡◌};
-ghost use Rattle.commands.specs.SearchAnswers.{no_of, search_status};
+ghost use Rattle.std.specs.Prelude.{◌≡◌, Some};
+ghost use Rattle.commands.specs.SearchAnswers.{no_of, search_status, search_text};
 
 use command_line::TraceFiles;
 use std::fmt;
@@ -41,6 +41,8 @@ impl SearchAnswer {
 }
 
 impl Display for SearchAnswer {
+    ghost output = { λ answer. Some (search_text answer) };
+
     fn fmt<W: fmt::Write>(&self, f: &mut fmt::Formatter<W>) -> fmt::Result {
         match self {
             SearchAnswer::Yes(operations) => write!(f, "yes: {operations} operations"),

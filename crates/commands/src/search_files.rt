@@ -1,26 +1,34 @@
 //! The search of a trace.
 
-ghost use Rattle.std.specs.Prelude.{◌≡◌, IfOk};
-ghost use Rattle.host_files.specs.Files.{IsUnread, KeepsFiles};
-ghost use Rattle.commands.specs.Naming.{HasNames};
-ghost use Rattle.commands.specs.SearchAnswers.{IsRightOf, search_status};
-ghost use Rattle.commands.specs.Searching as searching;
-ghost use Rattle.commands.specs.Traces.{TellsTrace, own_files};
-ghost use Rattle.mem_op.specs.Consistency.{IsConsistent};
+ghost use Rattle.command_line.specs.declared.request.Request.TheVariants as request;
+ghost use Rattle.host_files.specs.Files.{IsUnread};
+ghost use Rattle.log_file.specs.Sinks.{sink_of};
+ghost use Rattle.mem_op.specs.Consistency.{IsSequentialOrder};
+ghost use Rattle.refutation.specs.Refuting.{IsRefutation};
+ghost use Rattle.commands.specs.Traces.{IsTraceIn};
+ghost use Rattle.commands.specs.inner.Performing.{Came};
 
-use super::finding::{answer, find};
-use super::printing::print_proof;
-use super::proof_files::put_proof;
+use super::answer::CommandAnswer;
+use super::output::print_answer;
+use super::printing::print_no;
+use super::proof_files::{put_order, put_picture, put_refutation};
 use super::refusal::Refusal;
 use super::search_answer::SearchAnswer;
 use super::text::read_names;
-use super::trace_files::read_files;
+use super::trace_files::{AskedTrace, read_files};
 use command_line::Search;
 use host_files::Folder;
 use log_file::{ByteSink, write_all};
+use mem_op::OpId;
+use refutation::{Answer, Refutation};
 use refuted_cases::Names;
-use search::SearchWatch;
+use search::{SearchWatch, search_watched};
 use std::alloc::Global;
+use telling::count_of;
+use trace::Trace;
+
+/// How many steps a search may make where nothing is said, which take a minute at most.
+const STEPS: u64 = 100_000_000;
 
 /// Searches an order of the trace in files of the folder, or a refutation, puts what it finds where that was asked for, and prints
 /// the answer's line and why it is so, with names in place of addresses where a file gives some. The answer, or why there is none: the
@@ -32,45 +40,69 @@ pub(crate) fn search<W: SearchWatch, F: Folder, O: ByteSink>(
     folder: &mut F,
     asked: &Search<'_>,
     out: &mut O,
-) -> Result<SearchAnswer, Refusal>
-    ensures exact { searching.IsSearched (F.files folder.old) (F.files folder.new)
-        (IsUnread F.Source.remaining F.Source.failed (F.files folder.old) (F.files folder.new)) asked.now result }
-    ensures sound { IfOk result (λ answer. TellsTrace (F.files folder.old).told asked.now.trace
-        (λ cores. IsRightOf cores answer)) }
-    ensures own { IfOk result (λ answer. search_status answer ≡ 0
-        → TellsTrace (F.files folder.old).told (own_files asked.now.trace) IsConsistent) }
-    ensures files { KeepsFiles (F.files folder.old).told (F.files folder.new).told
-        (searching.IsOutputName asked.now) }
-    ensures named { IfOk result (λ _. HasNames (F.files folder.old).told asked.now.names) }
+) -> Result<CommandAnswer, Refusal>
+    ensures { Came (F.files folder.old) (F.files folder.new)
+        (IsUnread F.Source.remaining F.Source.failed (F.files folder.old) (F.files folder.new))
+        (sink_of O.contents O.failed out.old) (sink_of O.contents O.failed out.new) (request.Search asked.now) result }
 {
     let names = read_names(alloc, folder, asked.names)?;
-    search_named(alloc, watch, folder, asked, &names, out)
+    let read = read_files(alloc, folder, &asked.trace)?;
+    match search_watched(alloc, &read.trace, asked.budget.unwrap_or(STEPS), watch)? {
+        Answer::Order(order) => show_order(alloc, folder, asked, &read.trace, &order, out),
+        Answer::Refutation(refutation) => show_refutation(
+            alloc,
+            folder,
+            asked,
+            &names,
+            &read,
+            &refutation,
+            out,
+        ),
+        Answer::Undecided => Err(Refusal::Undecided),
+    }
 }
 
-/// The same with these names.
-fn search_named<W: SearchWatch, F: Folder, O: ByteSink>(
+/// Puts an order of the trace where that was asked for, and prints the answer.
+fn show_order<F: Folder, O: ByteSink>(
     alloc: Global,
-    watch: &W,
+    folder: &mut F,
+    asked: &Search<'_>,
+    trace: &Trace,
+    order: &[OpId],
+    out: &mut O,
+) -> Result<CommandAnswer, Refusal>
+    requires read { IsTraceIn (F.files folder.old).told asked.now.trace trace.now }
+    requires order { IsSequentialOrder trace.now order.now }
+    ensures { Came (F.files folder.old) (F.files folder.new)
+        (IsUnread F.Source.remaining F.Source.failed (F.files folder.old) (F.files folder.new))
+        (sink_of O.contents O.failed out.old) (sink_of O.contents O.failed out.new) (request.Search asked.now) result }
+{
+    put_order(alloc, folder, asked.order, order)?;
+    let answer = SearchAnswer::Yes(count_of(trace) as u64);
+    print_answer(alloc, out, CommandAnswer::Searched(answer))
+}
+
+/// Puts a refutation of the trace, and then a picture of it, each where that was asked for, and prints the answer and why it is so.
+fn show_refutation<F: Folder, O: ByteSink>(
+    alloc: Global,
     folder: &mut F,
     asked: &Search<'_>,
     names: &Names,
+    read: &AskedTrace,
+    refutation: &Refutation,
     out: &mut O,
-) -> Result<SearchAnswer, Refusal>
-    ensures exact { searching.IsSearched (F.files folder.old) (F.files folder.new)
-        (IsUnread F.Source.remaining F.Source.failed (F.files folder.old) (F.files folder.new)) asked.now result }
-    ensures sound { IfOk result (λ answer. TellsTrace (F.files folder.old).told asked.now.trace
-        (λ cores. IsRightOf cores answer)) }
-    ensures own { IfOk result (λ answer. search_status answer ≡ 0
-        → TellsTrace (F.files folder.old).told (own_files asked.now.trace) IsConsistent) }
-    ensures files { KeepsFiles (F.files folder.old).told (F.files folder.new).told
-        (searching.IsOutputName asked.now) }
+) -> Result<CommandAnswer, Refusal>
+    requires read { IsTraceIn (F.files folder.old).told asked.now.trace read.now.trace }
+    requires refutation { IsRefutation read.now.trace refutation.now }
+    ensures { Came (F.files folder.old) (F.files folder.new)
+        (IsUnread F.Source.remaining F.Source.failed (F.files folder.old) (F.files folder.new))
+        (sink_of O.contents O.failed out.old) (sink_of O.contents O.failed out.new) (request.Search asked.now) result }
 {
-    let read = read_files(alloc, folder, &asked.trace)?;
-    let proof = find(alloc, watch, &read.trace, asked.budget)?;
-    let answer = answer(&asked.trace, &read.trace, &proof);
-    let told = read.told(&proof);
-    let text = print_proof(alloc, names, told, &proof, &answer)?;
-    put_proof(alloc, folder, asked, names, told, &proof)?;
+    let answer = SearchAnswer::no_of(&asked.trace, count_of(&read.trace) as u64);
+    let told = read.told(refutation);
+    let text = print_no(alloc, names, told, refutation, &answer)?;
+    put_refutation(alloc, folder, asked.refutation, refutation)?;
+    put_picture(alloc, folder, asked.picture, names, told, refutation)?;
     write_all(out, text.as_bytes())?;
-    Ok(answer)
+    Ok(CommandAnswer::Searched(answer))
 }

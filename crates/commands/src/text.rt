@@ -1,10 +1,11 @@
 //! The texts of files.
 
 ghost use Rattle.std.specs.Prelude.{◌≡◌, IfErr, IfOk, OnOk};
+ghost use Rattle.std.specs.Option.{IsSomeAnd};
 ghost use Rattle.log_file.specs.Devices.{Tells};
 ghost use Rattle.host_files.specs.Files.{IsOnlyRead, IsUnread};
-ghost use Rattle.commands.specs.Naming.{HasNames, IsNameless};
-ghost use Rattle.commands.specs.Programs.{AreProgramsIn, IsUnprogrammed};
+ghost use Rattle.commands.specs.Programs.{AreProgramsIn};
+ghost use Rattle.commands.specs.inner.Performing.{IsInputFault};
 ghost use Rattle.commands.specs.inner.Texts.{IsNoText};
 
 use super::place::Input;
@@ -38,8 +39,8 @@ pub(crate) fn read_programs<F: Folder>(
     name: &str,
 ) -> Result<ProgramSet, Refusal>
     ensures ok { IfOk result (AreProgramsIn (F.files folder.old).told name.now) }
-    ensures err { IfErr result (IsUnprogrammed (F.files folder.old).told
-        (IsUnread F.Source.remaining F.Source.failed (F.files folder.old) (F.files folder.new)) name.now) }
+    ensures err { IfErr result (IsInputFault Input.Programs
+        (IsUnread F.Source.remaining F.Source.failed (F.files folder.old) (F.files folder.new) name.now)) }
     ensures quiet { OnOk result (F.files folder.new ≡ F.files folder.old) }
     ensures read { IsOnlyRead (F.files folder.old) (F.files folder.new) }
 {
@@ -58,9 +59,8 @@ pub(crate) fn read_names<F: Folder>(
     folder: &mut F,
     name: Option<&str>,
 ) -> Result<Names, Refusal>
-    ensures ok { OnOk result (HasNames (F.files folder.old).told name.entry) }
-    ensures err { IfErr result (IsNameless (F.files folder.old).told
-        (IsUnread F.Source.remaining F.Source.failed (F.files folder.old) (F.files folder.new)) name.entry) }
+    ensures err { IfErr result (IsInputFault Input.Names (IsSomeAnd name.entry (λ given.
+        IsUnread F.Source.remaining F.Source.failed (F.files folder.old) (F.files folder.new) given.now))) }
     ensures quiet { OnOk result (F.files folder.new ≡ F.files folder.old) }
     ensures read { IsOnlyRead (F.files folder.old) (F.files folder.new) }
 {

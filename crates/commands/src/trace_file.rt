@@ -1,10 +1,11 @@
 //! The trace in a file.
 
-ghost use Rattle.std.specs.Prelude.{◌≡◌, ◌<◌, ℕ, List, IfErr, IfOk, IsErrOf, OnOk};
+ghost use Rattle.std.specs.Prelude.{◌≡◌, ◌<◌, ℕ, List, IfErr, IfOk, OnOk};
 ghost use Rattle.host_files.specs.Files.{IsOnlyRead, IsUnread};
 ghost use Rattle.log_file.specs.Devices.{Failed, Tells};
-ghost use Rattle.commands.specs.Traces.{IsNoTrace, SpellsTraceAt};
-ghost use Rattle.commands.specs.inner.ReadTraces.{IsReadOf};
+ghost use Rattle.trace.specs.Texts.{SpellsTrace};
+ghost use Rattle.commands.specs.Traces.{SpellsTraceAt};
+ghost use Rattle.commands.specs.inner.Performing.{IsInputFault};
 
 use super::place::Input;
 use super::refusal::Refusal;
@@ -18,9 +19,8 @@ const PIECE: usize = 32_768;
 
 /// The trace whose text the source's bytes are, read piece by piece, or their first fault. A text that has no end is told as lack of memory.
 fn read_pieces<S: ByteSource>(alloc: Global, source: &mut S) -> Result<Trace, Refusal>
-    ensures answer { (bytes : List ℕ) × Tells (S.remaining source.old) bytes × IsReadOf bytes result }
-    ensures read { IsErrOf result (Refusal.Unread Input.Trace) →
-        Failed (S.failed source.old) (S.failed source.new) }
+    ensures ok { IfOk result (λ trace. (bytes : List ℕ) × Tells (S.remaining source.old) bytes × SpellsTrace bytes trace) }
+    ensures err { IfErr result (IsInputFault Input.Trace (Failed (S.failed source.old) (S.failed source.new))) }
 {
     let mut reader = TraceReader::new(alloc);
     let mut buffer = vec![in alloc; 0u8; PIECE]?;
@@ -45,8 +45,8 @@ pub(crate) fn read_trace<F: Folder>(
     name: &str,
 ) -> Result<Trace, Refusal>
     ensures ok { IfOk result (SpellsTraceAt (F.files folder.old).told name.now) }
-    ensures err { IfErr result (IsNoTrace (F.files folder.old).told
-        (IsUnread F.Source.remaining F.Source.failed (F.files folder.old) (F.files folder.new)) name.now) }
+    ensures err { IfErr result (IsInputFault Input.Trace
+        (IsUnread F.Source.remaining F.Source.failed (F.files folder.old) (F.files folder.new) name.now)) }
     ensures quiet { OnOk result (F.files folder.new ≡ F.files folder.old) }
     ensures read { IsOnlyRead (F.files folder.old) (F.files folder.new) }
 {

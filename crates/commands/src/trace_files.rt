@@ -3,8 +3,12 @@
 ghost use Rattle.std.specs.Prelude.{◌≡◌, IfErr, IfOk, OnOk, length};
 ghost use Rattle.host_files.specs.Files.{IsOnlyRead, IsUnread};
 ghost use Rattle.verdict.specs.Counts.{IsInRange};
+ghost use Rattle.command_line.specs.declared.request.Request.{Request};
+ghost use Rattle.commands.specs.Promises as promises;
 ghost use Rattle.commands.specs.Traces as traces;
-ghost use Rattle.commands.specs.inner.ReadTraces.{AreLogless};
+ghost use Rattle.commands.specs.declared.place.Input.TheVariants as input;
+ghost use Rattle.commands.specs.inner.Performing.{IsReadFault};
+ghost use Rattle.commands.specs.inner.ReadLogs.{AreLogless};
 
 use super::log_files::read_log_files;
 use super::log_traces::trace_of;
@@ -13,7 +17,7 @@ use super::sources::sourced_trace;
 use super::trace_file::read_trace;
 use command_line::TraceFiles;
 use host_files::Folder;
-use refutation::{Answer, Step};
+use refutation::{Refutation, Step};
 use std::alloc::Global;
 use trace::Trace;
 
@@ -36,32 +40,21 @@ impl AskedTrace {
         }
     }
 
-    /// The trace by which a proof is told: the one with the words, unless states are shown, which have those of the trace.
-    pub(crate) fn told(&self, proof: &Answer) -> &Trace {
+    /// The trace by which a refutation is told: the one with the words, unless states are shown, which have those of the trace.
+    pub(crate) fn told(&self, refutation: &Refutation) -> &Trace {
         match &self.worded {
-            Some(worded) => {
-                if shows_states(proof) {
-                    &self.trace
-                } else {
-                    worded
-                }
-            }
-            None => &self.trace,
+            Some(worded) if !shows_states(refutation) => worded,
+            _ => &self.trace,
         }
     }
 }
 
-/// Whether a step of a proof shows states.
-fn shows_states(proof: &Answer) -> bool {
-    match proof {
-        Answer::Refutation(refutation) => {
-            refutation
-                .as_slice()
-                .iter()
-                .any(|step| matches!(step, Step::States { .. }))
-        }
-        Answer::Order(_) | Answer::Undecided => false,
-    }
+/// Whether a step of a refutation shows states.
+fn shows_states(refutation: &Refutation) -> bool {
+    refutation
+        .as_slice()
+        .iter()
+        .any(|step| matches!(step, Step::States { .. }))
 }
 
 /// The trace in these files of the folder, or why there is none.
@@ -71,8 +64,8 @@ pub(crate) fn read_files<F: Folder>(
     files: &TraceFiles<'_>,
 ) -> Result<AskedTrace, Refusal>
     ensures ok { IfOk result (λ read. traces.IsTraceIn (F.files folder.old).told files.now read.trace) }
-    ensures err { IfErr result (traces.AreTraceless (F.files folder.old).told
-        (IsUnread F.Source.remaining F.Source.failed (F.files folder.old) (F.files folder.new)) files.now) }
+    ensures err { IfErr result (λ refusal. (request : Request) → promises.logs_read request ≡ promises.trace_logs files.now
+        → promises.file_at request input.Trace ≡ promises.trace_file files.now → IsReadFault (IsUnread F.Source.remaining F.Source.failed (F.files folder.old) (F.files folder.new)) request refusal) }
     ensures quiet { OnOk result (F.files folder.new ≡ F.files folder.old) }
     ensures read { IsOnlyRead (F.files folder.old) (F.files folder.new) }
 {
@@ -88,7 +81,7 @@ pub(crate) fn read_files<F: Folder>(
 fn read_logs<F: Folder>(alloc: Global, folder: &mut F, names: &[&str]) -> Result<Trace, Refusal>
     ensures ok { IfOk result (λ cores. IsInRange (length names.now)
         × traces.SpellLogsAt (F.files folder.old).told names.now cores) }
-    ensures err { IfErr result (AreLogless (F.files folder.old).told
+    ensures err { IfErr result (AreLogless
         (IsUnread F.Source.remaining F.Source.failed (F.files folder.old) (F.files folder.new)) names.now) }
     ensures quiet { OnOk result (F.files folder.new ≡ F.files folder.old) }
     ensures read { IsOnlyRead (F.files folder.old) (F.files folder.new) }
@@ -105,7 +98,7 @@ fn read_sourced<F: Folder>(
 ) -> Result<AskedTrace, Refusal>
     ensures ok { IfOk result (λ read. IsInRange (length names.now)
         × traces.SpellSourcesAt (F.files folder.old).told names.now read.trace) }
-    ensures err { IfErr result (AreLogless (F.files folder.old).told
+    ensures err { IfErr result (AreLogless
         (IsUnread F.Source.remaining F.Source.failed (F.files folder.old) (F.files folder.new)) names.now) }
     ensures quiet { OnOk result (F.files folder.new ≡ F.files folder.old) }
     ensures read { IsOnlyRead (F.files folder.old) (F.files folder.new) }

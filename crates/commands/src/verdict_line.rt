@@ -1,6 +1,8 @@
 //! The line of a verdict, made without memory.
 
-ghost use Rattle.std.specs.Prelude.{◌≤◌, length};
+ghost use Rattle.std.specs.Prelude.{◌≡◌, ◌≤◌, length};
+ghost use Rattle.log_file.specs.Sinks.{line};
+ghost use Rattle.verdict.specs.Texts.{rule_text, verdict_text};
 
 use arrayvec::ArrayString;
 use itoa::Buffer;
@@ -8,7 +10,8 @@ use verdict::{Rule, Verdict};
 
 /// The name of a rule.
 fn rule_name(rule: Rule) -> &'static str
-    ensures { length result.now ≤ 10 }
+    ensures text { result.now ≡ rule_text rule }
+    ensures short { length result.now ≤ 10 }
 {
     match rule {
         Rule::CoreOrder => "CORE-ORDER",
@@ -18,8 +21,10 @@ fn rule_name(rule: Rule) -> &'static str
     }
 }
 
-/// The line of a verdict.
-pub(crate) fn verdict_line(verdict: &Verdict) -> ArrayString<128> {
+/// The line of a verdict, of at most 37 bytes.
+pub(crate) fn verdict_line(verdict: &Verdict) -> ArrayString<37>
+    ensures { result.bytes ≡ line (verdict_text verdict.now) }
+{
     let mut line = ArrayString::new();
     match verdict {
         Verdict::Yes(count) => {
@@ -29,9 +34,9 @@ pub(crate) fn verdict_line(verdict: &Verdict) -> ArrayString<128> {
         }
         Verdict::No(fault) => {
             line.push_str("no: ");
-            line.push_str(Buffer::new().format(fault.id.core.get()));
+            line.push_str(Buffer::new().format(fault.id.core.get() as u8));
             line.push_str(".");
-            line.push_str(Buffer::new().format(fault.id.index.get()));
+            line.push_str(Buffer::new().format(fault.id.index.get() as u32));
             line.push_str(" ");
             line.push_str(rule_name(fault.rule));
             line.push_str("\n");

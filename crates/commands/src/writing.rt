@@ -1,12 +1,14 @@
 //! The logs of cores, written to a folder.
 
-ghost use Rattle.std.specs.Prelude.{◌≡◌, ◌≢◌, ◌≤◌, ◌<◌, ℕ, List, length, IfErr, IfOk, OnOk};
+ghost use Rattle.std.specs.Prelude.{◌≡◌, ◌≢◌, ◌≤◌, ◌<◌, ◌⊎◌, ℕ, List, length, IfErr, OnOk};
 ghost use Rattle.mem_op.specs.Limits.{operation_limit};
-ghost use Rattle.log_file.specs.Devices.{Tells};
+ghost use Rattle.command_line.specs.RunFiles.{IsLogName};
+ghost use Rattle.host_files.specs.Files.{KeepsFiles};
+ghost use Rattle.log_file.specs.Devices.{Failed, Tells};
 ghost use Rattle.log_file.specs.Log.{SpellsIn};
 ghost use Rattle.commands.specs.Logs as logs;
 ghost use Rattle.commands.specs.inner.CoreLogs.{AreShort, core_log};
-ghost use Rattle.commands.specs.inner.Putting.{IsUnput};
+ghost use Rattle.commands.specs.inner.Performing.{IsUnprinted};
 
 use super::refusal::Refusal;
 use core_unit::CoreUnit;
@@ -58,16 +60,12 @@ pub(crate) fn write_logs<F: Folder>(
 ) -> Result<u64, Refusal>
     requires cores { cores ≤ 64 }
     requires short { AreShort of }
-    ensures ok { IfOk result (λ count.
-        count ≡ logs.performed_below (core_log of.entry) cores) }
     ensures logs { OnOk result (logs.ArePut format (F.files folder.old)
         (F.files folder.new) out.now cores (core_log of.entry)) }
-    ensures err { IfErr result (logs.IsUnwritten (logs.ArePutUpTo format
-        (F.files folder.old) (F.files folder.new)
-        out.now cores (core_log of.entry))) }
+    ensures err { IfErr result IsUnprinted }
     ensures far { logs.ArePutAsFar format (F.files folder.old)
         (F.files folder.new) out.now cores (core_log of.entry) }
-    ensures others { logs.KeepsOthers (F.files folder.old).told (F.files folder.new).told out.now 64 }
+    ensures others { KeepsFiles (F.files folder.old).told (F.files folder.new).told (IsLogName out.now) }
 {
     let mut count = 0;
     for number in 0..cores {
@@ -97,8 +95,8 @@ fn write_log_of<F: Folder>(
     ensures others { (name : List ℕ) → name ≢ logs.log_name out.now core
         → (F.files folder.new).told name ≡ (F.files folder.old).told name }
     ensures quiet { OnOk result ((F.files folder.new).failed ≡ (F.files folder.old).failed) }
-    ensures err { IfErr result (IsUnput (F.files folder.old)
-        (F.files folder.new) core) }
+    ensures err { IfErr result (λ refusal. IsUnprinted refusal
+        × (Failed (F.files folder.old).failed (F.files folder.new).failed ⊎ (F.files folder.new ≡ F.files folder.old))) }
 {
     let Ok(name) = format!(in alloc; "{out}.{}", core.get()) else {
         return Err(Refusal::OutOfMemory);

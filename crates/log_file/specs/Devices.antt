@@ -14,9 +14,13 @@ Failed old new = (old < new) ⊎ (new ≡ 2 ^ 64 - 1)
 abbrev pub TellsFailure : Type 0 → ℕ → ℕ → Type 0
 TellsFailure told old new = (told → Failed old new) × (¬ told → new ≡ old)
 
+-- the sink took a beginning of the text
+abbrev pub TakesBeginning : Option (List ℕ) → Option (List ℕ) → List ℕ → Type 0
+TakesBeginning old new text = (n : ℕ) × (n ≤ length text) × Appends old new (take n text)
+
 -- the sink took a beginning of the text, and all of it if the answer is Ok
 abbrev pub Writes : {T E : Type 0} → Option (List ℕ) → Option (List ℕ) → List ℕ → Result T E → Type 0
-Writes old new text r = ((n : ℕ) × (n ≤ length text) × Appends old new (take n text)) × OnOk r (Appends old new text)
+Writes old new text r = TakesBeginning old new text × OnOk r (Appends old new text)
 
 -- the bytes are those that the source told, if it told any
 abbrev pub Tells : Option (List ℕ) → List ℕ → Type 0

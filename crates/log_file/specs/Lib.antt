@@ -13,6 +13,7 @@ pub mod SetKeeping
 pub mod ReadFaults
 pub mod RecordKeeping
 pub mod Sets
+pub mod Sinks
 pub mod Standing
 pub mod Wrapped
 pub mod WriteFaults

@@ -2,7 +2,7 @@
 
 ghost use Rattle.std.specs.Prelude.{◌≡◌, ◌<◌, ◌≤◌, ℕ, List, length, take, IfOk, OnOk, OnErr, None, Option};
 ghost use Rattle.std.specs.Io.KnownBytes.{WriteAppends, Appends};
-ghost use Rattle.log_file.specs.Devices.{CountsFailure, Failed};
+ghost use Rattle.log_file.specs.Devices.{CountsFailure, Failed, TakesBeginning};
 ghost use Rattle.log_file.specs.Wrapped.{writer_of, failed_writes};
 
 use super::device_fault::WriteFailed;
@@ -32,8 +32,7 @@ pub trait ByteSink {
 /// Writes all of the bytes. If a write fails, the sink has taken a beginning of them.
 pub fn write_all<W: ByteSink>(sink: &mut W, bytes: &[u8]) -> Result<(), WriteFailed>
     ensures ok { OnOk result (Appends (W.contents sink.old) (W.contents sink.new) bytes.now) }
-    ensures begun { (n : ℕ) × (n ≤ length bytes.now)
-        × Appends (W.contents sink.old) (W.contents sink.new) (take n bytes.now) }
+    ensures begun { TakesBeginning (W.contents sink.old) (W.contents sink.new) bytes.now }
     ensures cut { OnErr result ((n : ℕ) × (n < length bytes.now)
         × Appends (W.contents sink.old) (W.contents sink.new) (take n bytes.now)) }
     ensures failed { OnErr result (Failed (W.failed sink.old) (W.failed sink.new)) }

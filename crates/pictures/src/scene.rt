@@ -32,16 +32,19 @@ const LEGEND: [Sign; 14] = [
     (Kind::Swap, "a swap"),
     (Kind::Wrong, "the operation that breaks a rule"),
     (Kind::Due, "what was due"),
-    (Kind::Program, "program order"),
+    (Kind::Program, "program order (po)"),
     (
         Kind::Source,
-        "reads-from: from a store to a load of its word",
+        "reads-from (rf): from a store to a load of its word",
     ),
     (
         Kind::FromRead,
-        "from-read: from a load of an older word to a store",
+        "from-read (fr): from a load of an older word to a store",
     ),
-    (Kind::WriteOrder, "write order: from a store to a later one"),
+    (
+        Kind::WriteOrder,
+        "coherence order (co): from a store to a later one",
+    ),
     (Kind::Named, "from a store to what names it as its source"),
     (Kind::Overwritten, "to the first store that wrote over it"),
     (
@@ -49,10 +52,7 @@ const LEGEND: [Sign; 14] = [
         "from the last store of the word that it read",
     ),
     (Kind::Right, "to what it should read"),
-    (
-        Kind::Before,
-        "to the one before it in its log, which has a greater key",
-    ),
+    (Kind::Before, "to the one before it in its log"),
 ];
 
 impl Kind {

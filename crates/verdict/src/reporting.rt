@@ -1,7 +1,10 @@
 //! How an answer of the judge is printed.
 
-ghost use Rattle.std.specs.Prelude.{◌≡◌, ◌<◌, IsOkAnd, OnErr};
-ghost use Rattle.verdict.specs.Reports.{IsPrinted};
+ghost use Rattle.std.specs.Prelude.{◌≡◌, ◌≤◌, ◌<◌, ◌⊎◌, IfErr, IfOk, IsOkAnd, OnErr};
+ghost use Rattle.log_file.specs.Devices.{TakesBeginning};
+ghost use Rattle.log_file.specs.Sinks.{Takes, line, sink_of};
+ghost use Rattle.verdict.specs.Reports.{IsPrinted, IsRefusedStatus, no_memory_line, refused_line};
+ghost use Rattle.verdict.specs.Texts.{verdict_text};
 
 use super::answer::Verdict;
 use super::judge_fault::JudgeFault;
@@ -19,7 +22,14 @@ pub fn report<O: ByteSink, E: ByteSink>(
 ) -> u8
     ensures verdict { result < 2
         → IsOkAnd answer (IsPrinted (O.contents out.old) (O.contents out.new) result) }
-    ensures refused { OnErr answer (O.contents out.new ≡ O.contents out.old) }
+    ensures begun { IfOk answer (λ verdict.
+        TakesBeginning (O.contents out.old) (O.contents out.new) (line (verdict_text verdict))) }
+    ensures refused { OnErr answer (out.new ≡ out.old) }
+    ensures told { IfErr answer (λ fault.
+        Takes (sink_of E.contents E.failed err.old) (sink_of E.contents E.failed err.new) (refused_line fault)
+        ⊎ Takes (sink_of E.contents E.failed err.old) (sink_of E.contents E.failed err.new) no_memory_line) }
+    ensures quiet { result < 2 → err.new ≡ err.old }
+    ensures status { 2 ≤ result → IsRefusedStatus result answer }
 {
     match answer {
         Ok(verdict) => match format!(in alloc; "{verdict}\n") {
@@ -40,9 +50,10 @@ pub fn report<O: ByteSink, E: ByteSink>(
 }
 
 /// Tells why nothing could be printed, and answers 4.
-fn complain<E: ByteSink>(err: &mut E, line: &str) -> u8
-    ensures { result ≡ 4 }
+fn complain<E: ByteSink>(err: &mut E, text: &str) -> u8
+    ensures status { result ≡ 4 }
+    ensures told { Takes (sink_of E.contents E.failed err.old) (sink_of E.contents E.failed err.new) text.now }
 {
-    let _ = write_all(err, line.as_bytes());
+    let _ = write_all(err, text.as_bytes());
     4
 }

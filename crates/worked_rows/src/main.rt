@@ -1,7 +1,7 @@
 //! Replays rows: calls of the program over files in memory, with what each prints, its status and the files that it puts. It reads the rows from each
 //! file in the folder where it runs whose name ends with `.rows`; `docs/ROWS.md` tells how to write them. It also makes each call that went right
-//! again in other ways; `again.rt` knows what has to come of those. The rows of a file whose name ends with `.host.rows` are calls over files of the
-//! host.
+//! again in other ways, unless its word is `once`; `again.rt` knows what has to come of those. The rows of a file whose name ends with `.host.rows` are
+//! calls over files of the host.
 #![tactic(auto)]
 
 mod again;
@@ -16,8 +16,8 @@ mod words;
 
 use fault::{RowsFault, text_of};
 use log_file::{FromRead, read_all};
-use replay::replay;
-use std::fs;
+use replay::{Manner, replay};
+use std::{env, fs};
 
 /// The text of a file of the host.
 fn read_text(rt: &HostRuntime, name: &str) -> Result<String, RowsFault> {
@@ -41,12 +41,31 @@ fn file_names(rt: &HostRuntime) -> Result<Vec<String>, RowsFault> {
     Ok(names)
 }
 
+/// The words of the command line; the first is the program's own name.
+fn arguments(rt: &HostRuntime) -> Result<Vec<String>, RowsFault> {
+    let mut words = Vec::new(rt.alloc());
+    for word in env::args(rt)? {
+        words.push(word)?;
+    }
+    Ok(words)
+}
+
+/// How rows are to be replayed.
+fn manner_of(arguments: &[String]) -> Manner {
+    match arguments {
+        [_, word] if word.as_str() == "once" => Manner::Once,
+        _ => Manner::Again,
+    }
+}
+
 fn main(rt: HostRuntime) -> Result<(), RowsFault> {
+    let arguments = arguments(&rt)?;
+    let manner = manner_of(arguments.as_slice());
     let mut wrong: u64 = 0;
     for name in &file_names(&rt)? {
         let text = read_text(&rt, name.as_str())?;
         let host = name.ends_with(".host.rows").then_some(&rt);
-        let tally = replay(&rt, rt.alloc(), host, text.as_str())?;
+        let tally = replay(&rt, rt.alloc(), manner, host, text.as_str())?;
         println!(rt; "{name}: {} calls, {} wrong", tally.calls, tally.wrong)?;
         wrong = wrong.saturating_add(tally.wrong);
     }

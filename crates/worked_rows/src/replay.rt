@@ -11,6 +11,15 @@ use std::alloc::Global;
 use std::sync::Wait;
 use std::thread::Threads;
 
+/// How rows are replayed.
+#[derive(Clone, Copy)]
+pub(crate) enum Manner {
+    /// Each call is made once.
+    Once,
+    /// A call over files in memory that went right is made again in other ways.
+    Again,
+}
+
 /// How many calls were made, and how many times one went wrong.
 #[derive(Clone, Copy)]
 pub(crate) struct Tally {
@@ -18,10 +27,11 @@ pub(crate) struct Tally {
     pub(crate) wrong: u64,
 }
 
-/// Makes a call over files in memory, and if it went right, again in other ways. Gives how often it went wrong, and the files that it put.
+/// Makes a call over files in memory, and if it went right, again as the manner says. Gives how often it went wrong, and the files that it put.
 fn perform<R: Threads + Wait + Sync + Print>(
     rt: &R,
     alloc: Global,
+    manner: Manner,
     row: &Row,
     wanted: &Wanted,
     line: &str,
@@ -38,7 +48,10 @@ fn perform<R: Threads + Wait + Sync + Print>(
     let is_told = compare(rt, words.as_slice(), &expected, &done)?;
     let is_put = compare_files(rt, wanted.line, wanted.put.as_slice(), done.put.as_slice())?;
     let wrong = if is_told && is_put {
-        wrong_again(rt, alloc, words.as_slice(), given, &expected, &done)?
+        match manner {
+            Manner::Once => 0,
+            Manner::Again => wrong_again(rt, alloc, words.as_slice(), given, &expected, &done)?,
+        }
     } else {
         1
     };
@@ -49,6 +62,7 @@ fn perform<R: Threads + Wait + Sync + Print>(
 fn finish<R: Threads + Wait + Sync + Print>(
     rt: &R,
     alloc: Global,
+    manner: Manner,
     host: Option<&HostRuntime>,
     row: &mut Row,
     tally: &mut Tally,
@@ -59,7 +73,7 @@ fn finish<R: Threads + Wait + Sync + Print>(
     for line in &calls_of(alloc, wanted.words.as_str())? {
         let (wrong, put) = match host {
             Some(host) => perform_on_host(rt, host, row, &wanted, line.as_str())?,
-            None => perform(rt, alloc, row, &wanted, line.as_str())?,
+            None => perform(rt, alloc, manner, row, &wanted, line.as_str())?,
         };
         tally.calls = tally.calls.saturating_add(1);
         tally.wrong = tally.wrong.saturating_add(wrong);
@@ -74,6 +88,7 @@ fn finish<R: Threads + Wait + Sync + Print>(
 pub(crate) fn replay<R: Threads + Wait + Sync + Print>(
     rt: &R,
     alloc: Global,
+    manner: Manner,
     host: Option<&HostRuntime>,
     text: &str,
 ) -> Result<Tally, RowsFault> {
@@ -82,10 +97,10 @@ pub(crate) fn replay<R: Threads + Wait + Sync + Print>(
     for (at, text) in text.lines().enumerate() {
         let line = read(text).ok_or(RowFault::BadLine)?;
         if line.ends_call() {
-            finish(rt, alloc, host, &mut row, &mut tally)?;
+            finish(rt, alloc, manner, host, &mut row, &mut tally)?;
         }
         row.take(at.saturating_add(1), line)?;
     }
-    finish(rt, alloc, host, &mut row, &mut tally)?;
+    finish(rt, alloc, manner, host, &mut row, &mut tally)?;
     Ok(tally)
 }

@@ -1,57 +1,31 @@
-use Rattle.std.proofs.Common.{rules, ◌≡◌, ◌∙◌, ℕ, List, subst, Err}
-use Rattle.host_files.specs.Files.{Files, IsUnread}
-use Rattle.commands.proofs.Files.{only_read_after}
-use Rattle.log_file.specs.Devices.{Tells}
-use Rattle.commands.specs.inner.Looking.{IsLook}
-use Rattle.commands.proofs.OwnTraces.{own_yes}
-use Rattle.commands.proofs.Confirms.{looked, right, traceless}
+use Rattle.std.proofs.Common.{rules, ◌≡◌, Err, inl, refl}
+use Rattle.command_line.specs.declared.request.Request.TheVariants as request
+use Rattle.log_file.specs.Sinks.{line, sink_of}
+use Rattle.commands.proofs.Files.{keeps_files}
+use Rattle.commands.proofs.Performed.{printed, read_refused, said, unsaid}
+use Rattle.commands.proofs.Searches.{certificate_right, confirmed, trace_line}
+use Rattle.commands.specs.SearchAnswers.{search_status, search_text}
+use Rattle.commands.specs.declared.answer.CommandAnswer.TheVariants.{Searched}
 use Rattle.commands.proofs.confirm_files.confirm.Goals as goal
 
-pub returns-in_err-read-clause-exact : goal.returns-in_err-read-clause-exact
-returns-in_err-read-clause-exact g c =
+pub returns-in_err-answer : goal.returns-in_err-answer
+returns-in_err-answer g c =
+    let refusal = c.in_err-answer.field-0.0 in
+    let is : c.from_residual.result ≡ Err refusal = search rules in
+    rw is (read_refused _ _ _ _ _ (request.Confirm c.args.asked.now) refusal c.in_err-answer.ensures.err c.in_err-answer.ensures.read (inl refl))
+
+pub returns : goal.returns
+returns g c =
     let files = g.F.Folder.files in
+    let sink = sink_of g.O.ByteSink.contents g.O.ByteSink.failed in
     let old = files c.args.folder.now in
-    let new = files c.read_files.new.folder in
-    let unread = IsUnread g.F.Source.ByteSource.remaining g.F.Source.ByteSource.failed old new in
-    let is : c.from_residual.result ≡ Err c.in_err-read.field-0.0 = search rules in
-    rw is (traceless old new unread c.args.asked.now c.in_err-read.field-0.0 c.in_err-read.ensures.err)
-
-pub returns-in-Err-Read-clause-exact : goal.returns-in-Err-Read-clause-exact
-returns-in-Err-Read-clause-exact g c =
-    let files = g.F.Folder.files in
-    let new = files c.read_text.new.folder in
-    let name = c.args.asked.now.certificate.now in
-    let unread = λ (f : Files). IsUnread g.F.Source.ByteSource.remaining g.F.Source.ByteSource.failed f new name in
-    let why : unread (files c.read_files.new.folder) = rw c.in-Err-Read.field-0-is at c.in-Err-Read.ensures.err in
-    ((c.in_ok-read.read.trace, c.in_ok-read.ensures.ok, tt), subst unread c.in_ok-read.ensures.quiet why)
-
-pub returns-in-Err-Read-clause-read : goal.returns-in-Err-Read-clause-read
-returns-in-Err-Read-clause-read g c = only_read_after _ _ _ c.in_ok-read.ensures.quiet c.in-Err-Read.ensures.read
-
-pub returns-in-Err-OutOfMemory-clause-read : goal.returns-in-Err-OutOfMemory-clause-read
-returns-in-Err-OutOfMemory-clause-read g c = only_read_after _ _ _ c.in_ok-read.ensures.quiet c.in-Err-OutOfMemory.ensures.read
-
-pub returns-clause-exact : goal.returns-clause-exact
-returns-clause-exact g c =
-    let files = g.F.Folder.files in
-    let old = files c.args.folder.now in
-    let new = files c.read_text.new.folder in
-    let unread = IsUnread g.F.Source.ByteSource.remaining g.F.Source.ByteSource.failed old new in
+    let new = files c.answer_of.new.folder in
     let asked = c.args.asked.now in
-    let text = c.in-Ok.text.items in
-    let tells = subst (λ (f : Files). Tells (f.told asked.certificate.now) text) c.in_ok-read.ensures.quiet c.in-Ok.ensures.ok in
-    let look = subst (λ (t : List ℕ). IsLook asked.trace c.in_ok-read.read.trace t c.look_at.result) c.as_slice.ensures.value c.look_at.ensures in
-    looked old new unread asked c.in_ok-read.read.trace text c.look_at.result c.in_ok-read.ensures.ok tells
-    (c.in-Ok.ensures.quiet ∙ c.in_ok-read.ensures.quiet) look
-
-pub returns-clause-sound : goal.returns-clause-sound
-returns-clause-sound g c =
-    let files = g.F.Folder.files in
-    let old = files c.args.folder.now in
-    let new = files c.read_text.new.folder in
-    let unread = IsUnread g.F.Source.ByteSource.remaining g.F.Source.ByteSource.failed old new in
-    right old new unread c.args.asked.now c.look_at.result (returns-clause-exact g c)
-
-pub returns-clause-own : goal.returns-clause-own
-returns-clause-own g c =
-    own_yes (g.F.Folder.files c.args.folder.now).told c.args.asked.now.trace c.look_at.result (returns-clause-sound g c)
+    let answer = c.in_ok-answer.answer in
+    let out = sink c.args.out.now in
+    let out' = sink c.print_answer.new.out in
+    let right = certificate_right old.told asked answer c.in_ok-answer.ensures.ok in
+    let is = trace_line old.told asked.trace answer right in
+    printed _ _ _ _ _ (request.Confirm asked) (Searched answer) _ c.print_answer.ensures (keeps_files _ _ _ c.in_ok-answer.ensures.read)
+    (λ took. confirmed old new out out' asked answer right (said old.told out out' (request.Confirm asked) (search_status answer) (line (search_text answer)) is took))
+    tt (λ refusal why. unsaid old.told out out' (request.Confirm asked) (Searched answer) (search_status answer) (search_text answer) refusal refl is why)

@@ -1,43 +1,71 @@
-use Rattle.std.proofs.Common.{◌≡◌, rules, subst, Err}
+use Rattle.std.proofs.Common.{rules, ◌≡◌, refl, inl, inr, subst, Err}
 use Rattle.std.specs.Prelude.{string_bytes}
-use Rattle.std.proofs.KnownBytes.{Keeps-refl}
-use Rattle.host_files.specs.Files.{Files, IsUnread}
-use Rattle.commands.specs.Outputs.{FailsPutAt}
-use Rattle.commands.specs.Sinks.{HasFailed, TakesBeginning, sink_of}
-use Rattle.commands.proofs.Files.{keeps_files}
-use Rattle.commands.specs.Explaining.{PutsPictureAt}
-use Rattle.commands.proofs.Explained.{untold}
+use Rattle.std.specs.Io.KnownBytes.{Appends}
+use Rattle.command_line.specs.declared.request.Request.TheVariants as request
+use Rattle.log_file.specs.Devices.{TakesBeginning}
+use Rattle.log_file.specs.Sinks.{line, sink_of}
+use Rattle.verdict.specs.Statuses.{verdict_status}
+use Rattle.verdict.specs.Texts.{verdict_text}
+use Rattle.commands.proofs.Checks.{consistent_files, files_no, flat_files}
+use Rattle.commands.proofs.Explained.{unwritten}
+use Rattle.commands.proofs.Files.{keeps_after}
+use Rattle.commands.proofs.Performed.{answered, not_printed, read_refused}
+use Rattle.commands.specs.Outputs.{IsNameOf}
+use Rattle.commands.specs.declared.answer.CommandAnswer.TheVariants.{Explained}
 use Rattle.commands.specs.declared.place.Output.TheVariants as output
 use Rattle.commands.specs.declared.refusal.Refusal.TheVariants.{Unwritten}
 use Rattle.commands.proofs.explain_files.explain.Goals as goal
 
-pub returns-in_err-told-clause-files : goal.returns-in_err-told-clause-files
-returns-in_err-told-clause-files g c = keeps_files _ _ _ c.in_err-told.ensures.read
+pub returns-in_err-told : goal.returns-in_err-told
+returns-in_err-told g c =
+    let refusal = c.in_err-told.field-0.0 in
+    let is : c.from_residual.result ≡ Err refusal = search rules in
+    rw is (read_refused _ _ _ _ _ (request.Explain c.args.asked.now) refusal c.in_err-told.ensures.err c.in_err-told.ensures.read (unwritten _ _ c.args.asked.now refusal))
 
-pub returns-in_err-told-clause-exact : goal.returns-in_err-told-clause-exact
-returns-in_err-told-clause-exact g c =
+pub returns-in_err-put_picture : goal.returns-in_err-put_picture
+returns-in_err-put_picture g c =
     let files = g.F.Folder.files in
-    let unread = IsUnread g.F.Source.ByteSource.remaining g.F.Source.ByteSource.failed (files c.args.folder.now) (files c.tell.new.folder) in
-    let is : c.from_residual.result ≡ Err c.in_err-told.field-0.0 = search rules in
-    rw is (untold (files c.args.folder.now) (files c.tell.new.folder) unread c.args.asked.now (sink_of g.O.ByteSink.contents g.O.ByteSink.failed c.args.out.now) c.in_err-told.field-0.0 c.in_err-told.ensures.exact c.in_err-told.ensures.read)
-
-pub returns-in_err-put_picture-clause-exact : goal.returns-in_err-put_picture-clause-exact
-returns-in_err-put_picture-clause-exact g c =
-    let files = g.F.Folder.files in
-    let new = files c.put_picture.new.folder in
-    let told = c.in_ok-told.told in
-    let fails = subst (λ (f : Files). FailsPutAt f new c.args.asked.now.picture) c.in_ok-told.ensures.quiet c.in_err-put_picture.ensures.err.2 in
+    let keeps = keeps_after (files c.args.folder.now) (files c.tell.new.folder) (files c.put_picture.new.folder) (IsNameOf c.args.asked.now.picture) c.in_ok-told.ensures.read c.in_err-put_picture.ensures.files in
     let is : c.from_residual-in_err-put_picture.result ≡ Err c.in_err-put_picture.field-0.0 = search rules in
-    rw (is, c.in_err-put_picture.ensures.err.0) ((told.verdict, c.in_ok-told.ensures.exact, (c.in_err-put_picture.ensures.err.1, fails)), Keeps-refl (g.O.ByteSink.contents c.args.out.now))
+    rw (is, c.in_err-put_picture.ensures.err) (not_printed _ _ _ _ _ (request.Explain c.args.asked.now) (Unwritten output.Picture) tt keeps (inl refl))
 
-pub returns-in_err-write_all-clause-exact : goal.returns-in_err-write_all-clause-exact
-returns-in_err-write_all-clause-exact g c =
+pub returns-in_err-write_all : goal.returns-in_err-write_all
+returns-in_err-write_all g c =
     let files = g.F.Folder.files in
-    let new = files c.put_picture.new.folder in
-    let told = c.in_ok-told.told in
     let sink = sink_of g.O.ByteSink.contents g.O.ByteSink.failed in
-    let puts = subst (λ (f : Files). PutsPictureAt told.verdict f new c.args.asked.now.picture) c.in_ok-told.ensures.quiet c.in_ok-put_picture.ensures.ok in
+    let verdict = c.in_ok-told.told.verdict in
+    let keeps = keeps_after (files c.args.folder.now) (files c.tell.new.folder) (files c.put_picture.new.folder) (IsNameOf c.args.asked.now.picture) c.in_ok-told.ensures.read c.in_ok-put_picture.ensures.files in
+    let (more, same) = c.in_ok-told.ensures.ok.first in
+    let begun : TakesBeginning (sink c.args.out.now).contents (sink c.write_all.new.sink).contents (string_bytes c.in_ok-told.told.text) = search rules in
     let is : c.from_residual-in_err-write_all.result ≡ Err (Unwritten output.Standard) = search rules in
-    let failed : HasFailed (sink c.args.out.now) (sink c.write_all.new.sink) = search rules in
-    let begun : TakesBeginning (sink c.args.out.now) (sink c.write_all.new.sink) (string_bytes told.text) = search rules in
-    rw is (told.verdict, c.in_ok-told.ensures.exact, (puts, failed, string_bytes told.text, c.in_ok-told.ensures.text, begun))
+    rw is (not_printed _ _ _ _ _ (request.Explain c.args.asked.now) (Unwritten output.Standard) tt keeps
+    (inr (refl, verdict_status verdict, line (verdict_text verdict), (verdict, c.in_ok-told.ensures.ok.gets, refl, refl), (more, subst (TakesBeginning (sink c.args.out.now).contents (sink c.write_all.new.sink).contents) same begun))))
+
+pub returns : goal.returns
+returns g c =
+    let files = g.F.Folder.files in
+    let told = (files c.args.folder.now).told in
+    let asked = c.args.asked.now in
+    let verdict = c.in_ok-told.told.verdict in
+    let sink = sink_of g.O.ByteSink.contents g.O.ByteSink.failed in
+    let is = c.in_ok-told.ensures.ok in
+    let (more, same) = is.first in
+    let took : Appends (sink c.args.out.now).contents (sink c.write_all.new.sink).contents (string_bytes c.in_ok-told.told.text) = search rules in
+    let keeps = keeps_after (files c.args.folder.now) (files c.tell.new.folder) (files c.put_picture.new.folder) (IsNameOf asked.picture) c.in_ok-told.ensures.read c.in_ok-put_picture.ensures.files in
+    answered _ _ _ _ _ (request.Explain asked) (Explained verdict) keeps (record {
+      sound = consistent_files told asked.check verdict is.gets;
+      flat = flat_files told asked.check verdict is.gets;
+      no = files_no told asked.check verdict is.gets;
+      order = λ zero. tt;
+      printed = (
+        line (verdict_text verdict),
+        (verdict, is.gets, refl, refl),
+        (more, subst (Appends (sink c.args.out.now).contents (sink c.write_all.new.sink).contents) same took),
+      );
+      shown = tt;
+      counted = tt;
+      vetted = λ zero. tt;
+      another = (string_bytes c.in_ok-told.told.text, took, is.another);
+      upgraded = λ zero. tt;
+      yes = λ zero apart. tt;
+    }) tt

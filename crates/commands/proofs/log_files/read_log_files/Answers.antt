@@ -5,7 +5,7 @@ use Rattle.verdict.specs.SetFaults.{from_set}
 use Rattle.verdict.specs.declared.judge_fault.JudgeFault.TheVariants.{OutOfMemory}
 use Rattle.host_files.specs.Files.{IsUnread}
 use Rattle.commands.specs.LogFiles.{AreSourcesOf}
-use Rattle.commands.proofs.LogFiles.{faulty, same_left, told_by_sources, unopened_files, unopened_left, unread_at}
+use Rattle.commands.proofs.LogFiles.{faulty, told_by_sources, unopened_files, unread_at}
 use Rattle.commands.proofs.log_files.read_log_files.Goals as goal
 
 pub returns-in_err-sources-clause-err : goal.returns-in_err-sources-clause-err
@@ -14,12 +14,6 @@ returns-in_err-sources-clause-err g c =
     let is : c.from_residual.result ≡ Err c.in_err-sources.field-0.0 = search rules in
     rw is (unopened_files g.F.Source.ByteSource.remaining g.F.Source.ByteSource.failed (files c.args.folder.now) (files c.open_all.new.folder) c.args.names.now
     c.in_err-sources.field-0.0 c.in_err-sources.ensures.err)
-
-pub returns-in_err-sources-clause-left : goal.returns-in_err-sources-clause-left
-returns-in_err-sources-clause-left g c =
-    let files = g.F.Folder.files in
-    let is : c.from_residual.result ≡ Err c.in_err-sources.field-0.0 = search rules in
-    rw is (unopened_left (files c.args.folder.now) (files c.open_all.new.folder) c.args.names.now c.in_err-sources.field-0.0 c.in_err-sources.ensures.err c.in_err-sources.ensures.read)
 
 pub read-requires : goal.read-requires
 read-requires g c =
@@ -38,28 +32,13 @@ returns-in_err-set-clause-err g c =
     let names = c.args.names.now in
     let are : AreSourcesOf old.told remaining c.as_mut_slice.result.now names = search rules in
     let e = c.in_err-set.field-0.0 in
-    let (texts, tell, is) = c.in_err-set.ensures.answer in
     let told_so : c.from_residual-in_err-set.result ≡ Err (from_set e.file e.fault) = search rules in
-    rw told_so (faulty old.told (IsUnread remaining failed old new) names texts e.file e.fault c.in_ok-sources.ensures.range (told_by_sources old.told remaining _ names texts are tell) is
-    (λ fails. unread_at remaining failed old new _ _ names e.file are (c.in_err-set.ensures.read fails)))
-
-pub returns-in_err-set-clause-left : goal.returns-in_err-set-clause-left
-returns-in_err-set-clause-left g c =
-    let files = g.F.Folder.files in
-    let e = c.in_err-set.field-0.0 in
-    let is : c.from_residual-in_err-set.result ≡ Err (from_set e.file e.fault) = search rules in
-    rw is (same_left (files c.args.folder.now) (files c.open_all.new.folder) (from_set e.file e.fault) c.in_ok-sources.ensures.quiet)
-
-pub returns-in_err-logs-clause-left : goal.returns-in_err-logs-clause-left
-returns-in_err-logs-clause-left g c =
-    let files = g.F.Folder.files in
-    let is : c.from_residual-in_err-logs.result ≡ Err OutOfMemory = search rules in
-    rw is (same_left (files c.args.folder.now) (files c.open_all.new.folder) OutOfMemory c.in_ok-sources.ensures.quiet)
+    rw told_so (faulty (IsUnread remaining failed old new) names e.file e.fault (λ fails. unread_at remaining failed old new _ _ names e.file are (c.in_err-set.ensures.read fails)))
 
 pub returns-in_err-logs-clause-err : goal.returns-in_err-logs-clause-err
 returns-in_err-logs-clause-err g c =
     let is : c.from_residual-in_err-logs.result ≡ Err OutOfMemory = search rules in
-    rw is tt
+    rw is (λ request reads. record { unread = tt; of_file = tt })
 
 pub returns-clause-ok : goal.returns-clause-ok
 returns-clause-ok g c =

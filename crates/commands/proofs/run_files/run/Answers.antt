@@ -1,59 +1,72 @@
-use Rattle.std.proofs.Common.{◌≡◌, ℕ, List, length, Option, None, Err, subst, rules}
-use Rattle.std.specs.Prelude.{IfErr, OnOk}
+use Rattle.std.proofs.Common.{◌≡◌, ℕ, length, None, Err, inl, refl, subst, rules}
+use Rattle.command_line.specs.Files.{IsApart}
+use Rattle.command_line.specs.declared.request.Request.TheVariants as request
 use Rattle.lease_rule.specs.Ranges.{first_bad}
 use Rattle.audit.specs.Runs.{IsRun, kept_log}
-use Rattle.machine.specs.Runs.{AreSlicesLeft, IsMachineRun}
-use Rattle.host_files.specs.Files.{Files, IsUnread, KeepsFiles}
+use Rattle.machine.specs.Runs.{AreSlicesLeft}
+use Rattle.host_files.specs.Files.{Files}
+use Rattle.commands.specs.Logs.{TellsFirst}
+use Rattle.commands.specs.Numbers.{AreLeftAsFar, IsLeftName, numbers_of}
+use Rattle.commands.specs.Outputs.{IsNameOf}
 use Rattle.commands.specs.Programs.{AreProgramsIn}
-use Rattle.commands.proofs.Files.{keeps_files}
-use Rattle.commands.proofs.ThreadRuns.{came, left, left_by, unprogrammed}
-use Rattle.commands.specs.Numbers.{AreLeft, AreLeftAsFar, IsUnleft, numbers_of}
 use Rattle.commands.specs.Programmed.{config_of, log_format}
+use Rattle.commands.specs.declared.answer.CommandAnswer.TheVariants.{Done}
+use Rattle.commands.specs.declared.place.Input.TheVariants as input
+use Rattle.commands.specs.declared.refusal.Refusal.TheVariants.{Config, Run}
+use Rattle.commands.proofs.Files.{keeps_after}
+use Rattle.commands.proofs.Leaving.{at_most_64, run_leaves, spared}
+use Rattle.commands.proofs.Performed.{input_fault, not_printed, printed, read_refused, refused}
+use Rattle.commands.proofs.Runs.{run_answered, run_numbers_apart}
+use Rattle.commands.proofs.ThreadRuns.{left_by}
 use Rattle.commands.proofs.run_files.run.Goals as goal
 
-pub returns-in_err-programs-clause-exact : goal.returns-in_err-programs-clause-exact
-returns-in_err-programs-clause-exact g c =
-    let sound : first_bad (config_of c.args.asked.now.limits) ≡ None = search rules in
-    let is : c.from_residual-in_err-programs.result ≡ Err c.in_err-programs.field-0.0 = search rules in
+pub returns-in_err-config : goal.returns-in_err-config
+returns-in_err-config g c =
+    let refusal = Config c.in_err-config.field-0.0 in
+    let is : c.from_residual.result ≡ Err refusal = search rules in
+    rw is (read_refused _ _ _ _ _ (request.Run c.args.asked.now) refusal (record { unread = tt; of_file = tt }) (inl refl) tt)
+
+pub returns-in_err-programs : goal.returns-in_err-programs
+returns-in_err-programs g c =
+    let asked = c.args.asked.now in
+    let refusal = c.in_err-programs.field-0.0 in
+    let is : c.from_residual-in_err-programs.result ≡ Err refusal = search rules in
+    rw is (read_refused _ _ _ _ _ (request.Run asked) refusal (input_fault _ (request.Run asked) input.Programs asked.programs refusal refl c.in_err-programs.ensures.err) c.in_err-programs.ensures.read tt)
+
+pub returns-in_err-count-in-Ok : goal.returns-in_err-count-in-Ok
+returns-in_err-count-in-Ok g c =
     let files = g.F.Folder.files in
-    let old = files c.args.folder.now in
-    let new = files c.read_programs.new.folder in
-    let unread = IsUnread g.F.Source.ByteSource.remaining g.F.Source.ByteSource.failed old new in
-    rw is (unprogrammed old new unread c.args.asked.now c.in_err-programs.field-0.0 sound c.in_err-programs.ensures.err c.in_err-programs.ensures.read)
+    let refusal = c.in_err-count-in-Ok.field-0.0 in
+    let is : c.from_residual-in_err-count-in-Ok.result ≡ Err refusal = search rules in
+    rw is (not_printed _ _ _ _ _ (request.Run c.args.asked.now) refusal c.in_err-count-in-Ok.ensures.err (keeps_after (files c.args.folder.now) (files c.read_programs.new.folder) (files c.leave.new.folder) (IsLeftName c.args.asked.now.out.now c.args.asked.now.statistics) c.in_ok-programs.ensures.read c.leave.ensures.others) tt)
 
-pub returns-in_err-programs-clause-files : goal.returns-in_err-programs-clause-files
-returns-in_err-programs-clause-files g c = keeps_files _ _ _ c.in_err-programs.ensures.read
-
-pub returns-in-Ok-clause-exact : goal.returns-in-Ok-clause-exact
-returns-in-Ok-clause-exact g c =
+pub returns-in-Ok : goal.returns-in-Ok
+returns-in-Ok g c =
     let files = g.F.Folder.files in
     let old = files c.args.folder.now in
     let new = files c.leave.new.folder in
-    let unread = IsUnread g.F.Source.ByteSource.remaining g.F.Source.ByteSource.failed old new in
     let asked = c.args.asked.now in
     let set = c.in_ok-programs.programs in
-    let sound : first_bad (config_of asked.limits) ≡ None = search rules in
     let read : AreProgramsIn old.told asked.programs.now set = search rules in
     let us = c.as_slice-units.result.now in
     let ss = c.as_slice-slices.result.now in
     let whole : IsRun set.programs (config_of asked.limits) c.in-Ok.end.units.items c.in-Ok.end.slices.items = search rules in
-    let ran : IsMachineRun set.programs (config_of asked.limits) c.in-Ok.end.units.items c.in-Ok.end.slices.items = search rules in
     let run : IsRun set.programs (config_of asked.limits) us ss = rw (c.as_slice-units.ensures.value, c.as_slice-slices.ensures.value) whole in
-    let events : IsMachineRun set.programs (config_of asked.limits) us ss = rw (c.as_slice-units.ensures.value, c.as_slice-slices.ensures.value) ran in
     let many : c.len.result ≡ length set.programs = search rules in
     let same : c.log_format.result ≡ log_format set.format = search rules in
-    let parts : c.slices.result ≡ asked.limits.slices = search rules in
-    let left = subst (λ (f : Files). OnOk c.leave.result (AreLeft c.log_format.result f new asked.out.now c.len.result (kept_log us) asked.statistics (numbers_of c.len.result c.slices.result us ss))) c.in_ok-programs.ensures.quiet c.leave.ensures.left in
-    let why = subst (λ (f : Files). IfErr c.leave.result (IsUnleft c.log_format.result f new asked.out.now c.len.result (kept_log us) asked.statistics)) c.in_ok-programs.ensures.quiet c.leave.ensures.err in
-    came old new unread asked set us sound read ss run events c.leave.result
-    (rw (← many) c.leave.ensures.ok) (rw (← many, ← same, ← parts) left) (rw (← many, ← same) why)
+    let (mid, put, keeps) = c.in_ok-count-in-Ok.ensures.ok in
+    let first : TellsFirst (log_format set.format) mid.told asked.out.now (length set.programs) (kept_log us) (length set.programs) = rw (← many, ← same) put.0.logs in
+    let told : IsApart (request.Run asked) → TellsFirst (log_format set.format) new.told asked.out.now (length set.programs) (kept_log us) (length set.programs) =
+    λ apart. spared (log_format set.format) mid.told new.told asked.out.now (length set.programs) (kept_log us) (IsNameOf asked.statistics)
+    (at_most_64 old.told asked.programs.now set read) (run_numbers_apart asked apart) keeps first in
+    printed _ _ _ _ _ (request.Run asked) (Done c.in_ok-count-in-Ok.count) _ c.print_done.ensures (keeps_after (files c.args.folder.now) (files c.read_programs.new.folder) (files c.leave.new.folder) (IsLeftName c.args.asked.now.out.now c.args.asked.now.statistics) c.in_ok-programs.ensures.read c.leave.ensures.others)
+    (λ took. run_answered old new _ _ asked (λ apart. run_leaves old.told new.told asked set us ss read run (told apart))) tt (λ refusal short. tt)
 
-pub returns-clause-exact : goal.returns-clause-exact
-returns-clause-exact g c =
+pub returns : goal.returns
+returns g c =
     let files = g.F.Folder.files in
     let old = files c.args.folder.now in
     let new = files c.leave-left.new.folder in
-    let unread = IsUnread g.F.Source.ByteSource.remaining g.F.Source.ByteSource.failed old new in
     let asked = c.args.asked.now in
     let set = c.in_ok-programs.programs in
     let sound : first_bad (config_of asked.limits) ≡ None = search rules in
@@ -68,14 +81,5 @@ returns-clause-exact g c =
     let same : c.log_format.result ≡ log_format set.format = search rules in
     let parts : c.slices.result ≡ asked.limits.slices = search rules in
     let far = subst (λ (f : Files). AreLeftAsFar c.log_format.result f new asked.out.now c.len.result (kept_log us) asked.statistics (numbers_of c.len.result c.slices.result us ss)) c.in_ok-programs.ensures.quiet c.leave-left.ensures.far in
-    left old new unread asked set us sound read c.of.result ss are (rw (← many, ← same, ← parts) far)
-
--- what was put after the reading was put in all
-put_after : (old now : Files) (told : List ℕ → Option (List ℕ)) (IsPut : List ℕ → Type 0) → now ≡ old → KeepsFiles now.told told IsPut → KeepsFiles old.told told IsPut
-put_after old now told IsPut as_it_was others = subst (λ (files : Files). KeepsFiles files.told told IsPut) as_it_was others
-
-pub returns-in-Ok-clause-files : goal.returns-in-Ok-clause-files
-returns-in-Ok-clause-files g c = put_after _ _ _ _ c.in_ok-programs.ensures.quiet c.leave.ensures.others
-
-pub returns-clause-files : goal.returns-clause-files
-returns-clause-files g c = put_after _ _ _ _ c.in_ok-programs.ensures.quiet c.leave-left.ensures.others
+    refused _ _ _ _ _ (request.Run asked) (Run c.of.result) (keeps_after (files c.args.folder.now) (files c.read_programs.new.folder) (files c.leave-left.new.folder) (IsLeftName c.args.asked.now.out.now c.args.asked.now.statistics) c.in_ok-programs.ensures.read c.leave-left.ensures.others)
+    (record { kept = λ first. absurd first; left = (sound, set, read, (us, ss, are, rw (← many, ← same, ← parts) far)); unread = tt; cut = tt }) (λ one. cc)

@@ -1,7 +1,7 @@
 use Rattle.std.proofs.Common.{◌≡◌, ◌<◌, Err, rules}
 use Rattle.commands.specs.inner.CoreLogs.{core_log}
 use Rattle.commands.specs.Logs.{ArePutAsFar}
-use Rattle.commands.proofs.Logs.{keeps_files, put_as_far, put_next, unwritten}
+use Rattle.commands.proofs.Logs.{keeps_files, put_as_far, put_next}
 use Rattle.commands.proofs.writing.write_logs.Goals as goal
 
 pub loop-number-preserved : goal.loop-number-preserved
@@ -10,7 +10,6 @@ loop-number-preserved g c =
     let is : c.at-core.result ≡ c.loop-number.number = search rules in
     let few : c.loop-number.number < 64 = search rules in
     record {
-      count = search rules;
       few = search rules;
       put = put_next c.args.format (files c.args.folder.now).told (files c.loop-number.folder).told (files c.write_log_of.new.folder).told c.args.out.now c.args.cores (core_log c.args.of)
           c.loop-number.number c.at-core.result is few c.loop-number.invariant.put c.in_ok-write_log_of.ensures.others
@@ -20,13 +19,8 @@ loop-number-preserved g c =
 
 pub returns-in_err-write_log_of-clause-err : goal.returns-in_err-write_log_of-clause-err
 returns-in_err-write_log_of-clause-err g c =
-    let files = g.F.Folder.files in
-    let is : c.at-core.result ≡ c.loop-number.number = search rules in
-    let few : c.loop-number.number < 64 = search rules in
     let refused : c.from_residual.result ≡ Err c.in_err-write_log_of.field-0.0 = search rules in
-    rw refused (unwritten c.args.format (files c.args.folder.now) (files c.loop-number.folder) (files c.write_log_of.new.folder) c.args.out.now c.args.cores (core_log c.args.of)
-    c.loop-number.number c.at-core.result is few c.loop-number.invariant.put c.loop-number.invariant.quiet c.in_err-write_log_of.ensures.others
-    c.loop-number-test.true c.in_err-write_log_of.field-0.0 c.in_err-write_log_of.ensures.err)
+    rw refused c.in_err-write_log_of.ensures.err.0
 
 pub returns-in_err-write_log_of-clause-far : goal.returns-in_err-write_log_of-clause-far
 returns-in_err-write_log_of-clause-far g c =
@@ -35,7 +29,7 @@ returns-in_err-write_log_of-clause-far g c =
     let few : c.loop-number.number < 64 = search rules in
     put_as_far c.args.format (files c.args.folder.now) (files c.loop-number.folder) (files c.write_log_of.new.folder) c.args.out.now c.args.cores (core_log c.args.of)
     c.loop-number.number c.at-core.result is few c.loop-number.invariant.put c.loop-number.invariant.quiet c.in_err-write_log_of.ensures.others
-    c.loop-number-test.true c.in_err-write_log_of.field-0.0 c.in_err-write_log_of.ensures.err
+    c.loop-number-test.true c.in_err-write_log_of.ensures.err.1
 
 pub returns-in_err-write_log_of-clause-others : goal.returns-in_err-write_log_of-clause-others
 returns-in_err-write_log_of-clause-others g c =
