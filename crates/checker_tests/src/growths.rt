@@ -48,6 +48,10 @@ fn a_set_of_logs(rt: HostRuntime) -> Result<(), Fail> {
     );
     let order = [id(0, 0), id(0, 1), id(1, 0), id(1, 1)];
     assert!(rt; replay_order(alloc, &order, &logs)?);
+    let exchanged = [id(0, 1), id(0, 0), id(1, 0), id(1, 1)];
+    assert!(rt; !replay_order(alloc, &exchanged, &logs)?);
+    let doubled = [id(0, 0), id(0, 1), id(1, 0), id(1, 0)];
+    assert!(rt; !replay_order(alloc, &doubled, &logs)?);
     let written = order.iter().map(|id| id.core).collect(alloc)?;
     let trace = Trace::of(alloc, accesses_of(alloc, &logs)?)?.written_by(written);
     assert!(rt; replays(alloc, trace.cores(), &order)?);

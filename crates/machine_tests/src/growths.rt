@@ -85,6 +85,16 @@ fn is_read_and_upgraded(rt: &impl Abort, cache: &mut PrivateCache) {
 }
 
 #[test]
+fn the_greatest_stamp_and_rank(rt: HostRuntime) -> Result<(), Fail> {
+    let stamp = Stamp::new(281_474_976_710_656)?;
+    assert_eq!(rt; stamp.plus(0), Ok(stamp));
+    assert_eq!(rt; stamp.plus(1), Err(StampFault::StampLimit));
+    let rank = Rank::new(4_294_967_295)?;
+    assert_eq!(rt; rank.next(), Err(StampFault::RankLimit));
+    Ok(())
+}
+
+#[test]
 fn a_slice_of_one_line(rt: HostRuntime) -> Result<(), Fail> {
     let config = Config::new(1, 10, 1_000, 64, 1, 64, 1_000)?;
     let mut slice = ManagerSlice::new(rt.alloc(), 0, &config)?;
